@@ -1,0 +1,59 @@
+-- The devices' side of the bus: the endpoints, and what is kept by device address. Assumes nothing.
+use mathlib.Core.Bool.{Bool, false, cond, _&&_, _||_}
+use mathlib.Core.List.{List}
+use Prim.Native.Nat.{ℕ, _%_}
+use lib.Dec.{eqb, leb, ltb}
+use lib.ListN.{length, getD, set}
+use Rattle.std.specs.declared.option.Option.{Option}
+use Rattle.std.specs.declared.option.Option.the-variants.{Some, None}
+use Rattle.port.specs.declared.directions.Direction.{Direction}
+use Rattle.port.specs.declared.directions.Direction.the-variants.{Out, In}
+use Rattle.port.specs.Endpoints.{Endpoint, nowhere, cleared, place}
+
+-- the last setup that a device heard: the address that it went to, and whether it was good, a request that the device could do
+pub record Heard : Type 0 where
+  pub address : ℕ
+  pub good : Bool
+
+-- what belongs to a device and not to one of its endpoints has its place here, beside the endpoints: so far that is the
+-- last setup heard, with the address that heard it
+pub record Devices : Type 0 where
+  pub endpoints : List Endpoint
+  pub heard : Option Heard
+
+abbrev pub with-endpoints : Devices → List Endpoint → Devices
+with-endpoints d es = record { endpoints = es; heard = d .heard }
+
+-- the eight bytes are the clear request, whatever endpoint they name: 02 01 00 00 ee 00 00 00
+abbrev pub asks-clear : List ℕ → Bool
+asks-clear bytes =
+    eqb (getD bytes 0 0) 0x02 && (eqb (getD bytes 1 0) 0x01 && (eqb (getD bytes 2 0) 0 && (eqb (getD bytes 3 0) 0
+    && (eqb (getD bytes 5 0) 0 && (eqb (getD bytes 6 0) 0 && eqb (getD bytes 7 0) 0)))))
+
+-- the byte ee names an endpoint: 1 to 15 in the low four bits, bit 7 for IN, and the bits between clear
+abbrev pub names-endpoint : ℕ → Bool
+names-endpoint ee = (leb 1 ee && leb ee 15) || (leb 0x81 ee && leb ee 0x8F)
+
+abbrev pub named-direction : ℕ → Direction
+named-direction ee = cond (ltb ee 0x80) Out In
+
+-- the place of the endpoint that a setup to this address asks to clear; the number of endpoints where it asks for nothing
+-- that the device can do
+unfoldable pub clear-place : ℕ → List ℕ → List Endpoint → ℕ
+clear-place address bytes es =
+    cond (asks-clear bytes && names-endpoint (getD bytes 4 0))
+    (place address (getD bytes 4 0 % 16) (named-direction (getD bytes 4 0)) es)
+    (length es)
+
+-- a device at this address heard the eight bytes: the endpoint named is cleared, and the setup is the last one heard
+unfoldable pub after-setup : ℕ → List ℕ → Devices → Devices
+after-setup address bytes d =
+    record {
+      endpoints = set (d .endpoints) (clear-place address bytes (d .endpoints)) (cleared (getD (d .endpoints) (clear-place address bytes (d .endpoints)) nowhere));
+      heard = Some (record { address = address; good = ltb (clear-place address bytes (d .endpoints)) (length (d .endpoints)) });
+    }
+
+-- the last setup heard was good, and at this address
+abbrev pub heard-good : ℕ → Option Heard → Bool
+heard-good address None = false
+heard-good address (Some h) = eqb (h .address) address && h .good

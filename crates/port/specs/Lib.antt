@@ -1,0 +1,11 @@
+pub mod Directions
+pub mod Toggles
+pub mod Fates
+pub mod Transactions
+pub mod Chip
+pub mod Endpoints
+pub mod Devices
+pub mod Reactions
+pub mod Bus
+pub mod Launches
+pub mod Accesses

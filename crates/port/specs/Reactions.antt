@@ -1,0 +1,127 @@
+-- What the devices do when a transaction meets a given fate: the result code that the host sees, and the devices afterwards.
+-- Where the fates come from plays no part here. Assumes nothing.
+use mathlib.Core.Bool.{Bool, cond, not}
+use mathlib.Core.List.{List, [], _∷_}
+use Prim.Native.Nat.{ℕ, _+_}
+use lib.Dec.{ltb}
+use lib.ListN.{length, getD, set}
+use Rattle.port.specs.declared.directions.Direction.{Direction}
+use Rattle.port.specs.declared.directions.Direction.the-variants.{Out, In}
+use Rattle.port.specs.declared.fates.Fate.{Fate}
+use Rattle.port.specs.declared.fates.Fate.the-variants.{Arrives, Lost, Unheard, Nak, Stall}
+use Rattle.port.specs.declared.toggles.Toggle.{Toggle}
+use Rattle.port.specs.Toggles.{agree}
+use Rattle.port.specs.Endpoints.{Endpoint, nowhere, halt, took, handed, place, lives}
+use Rattle.port.specs.Devices.{Devices, with-endpoints, after-setup, heard-good}
+
+-- one endpoint's part in a transaction: the result code, and the endpoint afterwards
+pub record Met : Type 0 where
+  pub code : ℕ
+  pub endpoint : Endpoint
+
+abbrev pub met : ℕ → Endpoint → Met
+met code e = record { code = code; endpoint = e }
+
+-- the same endpoint, seen by a host that hears another code
+abbrev pub unheard : ℕ → Met → Met
+unheard code m = met code (m .endpoint)
+
+-- an OUT packet reaches its endpoint. In this order: a halted endpoint answers STALL; a packet with the other toggle is one
+-- that was taken before, and is acknowledged and dropped; one that does not fit is answered NAK; any other is taken
+abbrev pub out-reaches : Toggle → List ℕ → Endpoint → Met
+out-reaches toggle bytes e =
+    cond (e .halted) (met 5 e)
+    (cond (not (agree toggle (e .toggle))) (met 0 e)
+    (cond (ltb (e .capacity) (length (e .taken) + length bytes)) (met 4 e)
+    (met 0 (took bytes e))))
+
+-- an OUT packet under a fate. Where it reached the device and the acknowledgement is lost, the host sees the code
+unfoldable pub out-met : Fate → Toggle → List ℕ → Endpoint → Met
+out-met Arrives toggle bytes e = out-reaches toggle bytes e
+out-met (Lost code) toggle bytes e = met code e
+out-met (Unheard code) toggle bytes e = unheard code (out-reaches toggle bytes e)
+out-met Nak toggle bytes e = met 4 e
+out-met Stall toggle bytes e = met 5 (halt e)
+
+-- what an endpoint does with its first packet on an IN that the host answers: it goes on to the next if the acknowledgement
+-- arrives, and keeps packet and toggle if not
+abbrev pub acknowledged : Fate → Endpoint → Endpoint
+acknowledged Arrives e = handed e
+acknowledged (Lost code) e = e
+acknowledged (Unheard code) e = e
+acknowledged Nak e = e
+acknowledged Stall e = e
+
+-- an IN reaches its endpoint. In this order: a halted endpoint answers STALL, and one with nothing waiting NAK; else its first
+-- packet comes, which the host receives if the toggles agree, and drops with result 6 if not; in both cases it acknowledges it
+abbrev pub in-reaches : Fate → Toggle → Endpoint → Met
+in-reaches fate toggle e =
+    cond (e .halted) (met 5 e)
+    (cond (ltb 0 (length (e .waiting)))
+    (met (cond (agree toggle (e .toggle)) 0 6) (acknowledged fate e))
+    (met 4 e))
+
+-- an IN under a fate
+unfoldable pub in-met : Fate → Toggle → Endpoint → Met
+in-met Arrives toggle e = in-reaches Arrives toggle e
+in-met (Lost code) toggle e = met code e
+in-met (Unheard code) toggle e = in-reaches (Unheard code) toggle e
+in-met Nak toggle e = met 4 e
+in-met Stall toggle e = met 5 (halt e)
+
+-- the packet that an IN with result 0 brings
+abbrev pub first : List (List ℕ) → List ℕ
+first [] = []
+first (p ∷ ps) = p
+
+-- what came of a transaction: the result code, the devices afterwards, and the bytes that an IN with result 0 brought
+pub record Outcome : Type 0 where
+  pub code : ℕ
+  pub devices : Devices
+  pub bytes : List ℕ
+
+abbrev pub outcome : ℕ → Devices → Outcome
+outcome code d = record { code = code; devices = d; bytes = [] }
+
+-- the devices with what the endpoint at this place did
+abbrev pub with-met : Devices → ℕ → Met → Devices
+with-met d i m = with-endpoints d (set (d .endpoints) i (m .endpoint))
+
+module _ (address : ℕ) (fate : Fate) (d : Devices) where
+  -- OUT at one endpoint: 14 where there is none
+  unfoldable pub out-outcome : ℕ → Toggle → List ℕ → Outcome
+  out-outcome number toggle bytes =
+      let i = place address number Out (d .endpoints) in
+      let m = out-met fate toggle bytes (getD (d .endpoints) i nowhere) in
+      cond (ltb i (length (d .endpoints))) (outcome (m .code) (with-met d i m)) (outcome 14 d)
+
+  -- IN at one endpoint: 14 where there is none
+  unfoldable pub in-outcome : ℕ → Toggle → Outcome
+  in-outcome number toggle =
+      let i = place address number In (d .endpoints) in
+      let m = in-met fate toggle (getD (d .endpoints) i nowhere) in
+      cond (ltb i (length (d .endpoints)))
+      (record { code = m .code; devices = with-met d i m; bytes = first (getD (d .endpoints) i nowhere .waiting) })
+      (outcome 14 d)
+
+  -- a SETUP that some device at this address may hear: NAK and STALL are no answers to it, so it is lost with 14
+  abbrev pub setup-fate : Fate → List ℕ → Outcome
+  setup-fate Arrives bytes = outcome 0 (after-setup address bytes d)
+  setup-fate (Lost code) bytes = outcome code d
+  setup-fate (Unheard code) bytes = outcome code (after-setup address bytes d)
+  setup-fate Nak bytes = outcome 14 d
+  setup-fate Stall bytes = outcome 14 d
+
+  unfoldable pub setup-outcome : List ℕ → Outcome
+  setup-outcome bytes = cond (lives address (d .endpoints)) (setup-fate fate bytes) (outcome 14 d)
+
+  -- an HS-IN that some device at this address may hear: whether it did what the last setup asked. Nothing on a device changes
+  abbrev pub hs-code : Fate → ℕ
+  hs-code Arrives = cond (heard-good address (d .heard)) 0 5
+  hs-code (Lost code) = code
+  hs-code (Unheard code) = cond (heard-good address (d .heard)) 0 5
+  hs-code Nak = 4
+  hs-code Stall = 5
+
+  unfoldable pub hs-outcome : Outcome
+  hs-outcome = cond (lives address (d .endpoints)) (outcome (hs-code fate) d) (outcome 14 d)
