@@ -8,12 +8,8 @@ use Rattle.std.specs.declared.option.Option.{Option}
 use Rattle.std.specs.declared.option.Option.the-variants.{Some, None}
 use Rattle.port.specs.declared.directions.Direction.{Direction}
 use Rattle.port.specs.declared.directions.Direction.the-variants.{Out, In}
+use Rattle.port.specs.declared.setups.Heard.{Heard}
 use Rattle.port.specs.Endpoints.{Endpoint, nowhere, cleared, place}
-
--- the last setup that a device heard: the address that it went to, and whether it was good, a request that the device could do
-pub record Heard : Type 0 where
-  pub address : ℕ
-  pub good : Bool
 
 -- what belongs to a device and not to one of its endpoints has its place here, beside the endpoints: so far that is the
 -- last setup heard, with the address that heard it

@@ -1,6 +1,6 @@
 -- What the devices do when a transaction meets a given fate: the result code that the host sees, and the devices afterwards.
 -- Where the fates come from plays no part here. Assumes nothing.
-use mathlib.Core.Bool.{Bool, cond, not}
+use mathlib.Core.Bool.{Bool, true, false, cond, not}
 use mathlib.Core.List.{List, [], _∷_}
 use Prim.Native.Nat.{ℕ, _+_}
 use lib.Dec.{ltb}
@@ -36,36 +36,28 @@ out-reaches toggle bytes e =
     (met 0 (took bytes e))))
 
 -- an OUT packet under a fate. Where it reached the device and the acknowledgement is lost, the host sees the code
-unfoldable pub out-met : Fate → Toggle → List ℕ → Endpoint → Met
+abbrev pub out-met : Fate → Toggle → List ℕ → Endpoint → Met
 out-met Arrives toggle bytes e = out-reaches toggle bytes e
 out-met (Lost code) toggle bytes e = met code e
 out-met (Unheard code) toggle bytes e = unheard code (out-reaches toggle bytes e)
 out-met Nak toggle bytes e = met 4 e
 out-met Stall toggle bytes e = met 5 (halt e)
 
--- what an endpoint does with its first packet on an IN that the host answers: it goes on to the next if the acknowledgement
--- arrives, and keeps packet and toggle if not
-abbrev pub acknowledged : Fate → Endpoint → Endpoint
-acknowledged Arrives e = handed e
-acknowledged (Lost code) e = e
-acknowledged (Unheard code) e = e
-acknowledged Nak e = e
-acknowledged Stall e = e
-
 -- an IN reaches its endpoint. In this order: a halted endpoint answers STALL, and one with nothing waiting NAK; else its first
--- packet comes, which the host receives if the toggles agree, and drops with result 6 if not; in both cases it acknowledges it
-abbrev pub in-reaches : Fate → Toggle → Endpoint → Met
-in-reaches fate toggle e =
+-- packet comes, which the host receives if the toggles agree, and drops with result 6 if not. In both cases the host
+-- acknowledges it: where the device hears that, it goes on to the next packet, and else it keeps packet and toggle
+abbrev pub in-reaches : Bool → Toggle → Endpoint → Met
+in-reaches heard toggle e =
     cond (e .halted) (met 5 e)
     (cond (ltb 0 (length (e .waiting)))
-    (met (cond (agree toggle (e .toggle)) 0 6) (acknowledged fate e))
+    (met (cond (agree toggle (e .toggle)) 0 6) (cond heard (handed e) e))
     (met 4 e))
 
--- an IN under a fate
-unfoldable pub in-met : Fate → Toggle → Endpoint → Met
-in-met Arrives toggle e = in-reaches Arrives toggle e
+-- an IN under a fate: the codes of an unheard one are the device's, since it is the device that does not hear
+abbrev pub in-met : Fate → Toggle → Endpoint → Met
+in-met Arrives toggle e = in-reaches true toggle e
 in-met (Lost code) toggle e = met code e
-in-met (Unheard code) toggle e = in-reaches (Unheard code) toggle e
+in-met (Unheard code) toggle e = in-reaches false toggle e
 in-met Nak toggle e = met 4 e
 in-met Stall toggle e = met 5 (halt e)
 

@@ -3,11 +3,13 @@ pub mod accesses;
 pub mod directions;
 pub mod fates;
 pub mod registers;
+pub mod setups;
 pub mod toggles;
 pub mod transactions;
 
 pub use accesses::Port;
 pub use directions::Direction;
 pub use fates::Fate;
+pub use setups::Heard;
 pub use toggles::Toggle;
 pub use transactions::Transaction;
