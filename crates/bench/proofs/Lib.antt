@@ -1,2 +1,3 @@
 mod Fronts
 mod Offers
+mod Rows

@@ -1,3 +1,4 @@
 pub mod Rooms
 pub mod Records
 pub mod Endpoints
+pub mod Devices

@@ -1,4 +1,5 @@
 // The bench chip: a port in memory, with devices that can be set up and faults that can be injected.
+mod devices;
 mod endpoints;
 mod inboxes;
 mod packets;

@@ -1,1 +1,3 @@
 pub mod Many
+pub mod Places
+pub mod Outcomes

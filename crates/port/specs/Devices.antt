@@ -33,21 +33,30 @@ names-endpoint ee = (leb 1 ee && leb ee 15) || (leb 0x81 ee && leb ee 0x8F)
 abbrev pub named-direction : ℕ → Direction
 named-direction ee = cond (ltb ee 0x80) Out In
 
--- the place of the endpoint that a setup to this address asks to clear; the number of endpoints where it asks for nothing
--- that the device can do
-unfoldable pub clear-place : ℕ → List ℕ → List Endpoint → ℕ
-clear-place address bytes es =
-    cond (asks-clear bytes && names-endpoint (getD bytes 4 0))
-    (place address (getD bytes 4 0 % 16) (named-direction (getD bytes 4 0)) es)
-    (length es)
+-- the endpoint byte of the clear request; every other request asks for nothing that a device here can do
+abbrev pub clear-target : List ℕ → Option ℕ
+clear-target bytes = cond (asks-clear bytes && names-endpoint (getD bytes 4 0)) (Some (getD bytes 4 0)) None
+
+-- the place of the endpoint that the byte names at this address; the number of endpoints where there is none
+abbrev pub target-place : ℕ → Option ℕ → List Endpoint → ℕ
+target-place address None es = length es
+target-place address (Some ee) es = place address (ee % 16) (named-direction ee) es
+
+abbrev pub clear-place : ℕ → List ℕ → List Endpoint → ℕ
+clear-place address bytes es = target-place address (clear-target bytes) es
+
+-- the devices with the endpoint at this place cleared; a place past the last endpoint is none
+abbrev pub cleared-at : ℕ → Devices → Devices
+cleared-at i d = with-endpoints d (set (d .endpoints) i (cleared (getD (d .endpoints) i nowhere)))
+
+abbrev pub with-heard : Devices → Heard → Devices
+with-heard d h = record { endpoints = d .endpoints; heard = Some h }
 
 -- a device at this address heard the eight bytes: the endpoint named is cleared, and the setup is the last one heard
 unfoldable pub after-setup : ℕ → List ℕ → Devices → Devices
 after-setup address bytes d =
-    record {
-      endpoints = set (d .endpoints) (clear-place address bytes (d .endpoints)) (cleared (getD (d .endpoints) (clear-place address bytes (d .endpoints)) nowhere));
-      heard = Some (record { address = address; good = ltb (clear-place address bytes (d .endpoints)) (length (d .endpoints)) });
-    }
+    with-heard (cleared-at (clear-place address bytes (d .endpoints)) d)
+    (record { address = address; good = ltb (clear-place address bytes (d .endpoints)) (length (d .endpoints)) })
 
 -- the last setup heard was good, and at this address
 abbrev pub heard-good : ℕ → Option Heard → Bool

@@ -79,41 +79,51 @@ outcome code d = record { code = code; devices = d; bytes = [] }
 abbrev pub with-met : Devices → ℕ → Met → Devices
 with-met d i m = with-endpoints d (set (d .endpoints) i (m .endpoint))
 
+-- what comes of an OUT that meets the endpoint at a place, and of an IN
+abbrev pub out-at : Fate → Toggle → List ℕ → Devices → ℕ → Outcome
+out-at fate toggle bytes d i =
+    let m = out-met fate toggle bytes (getD (d .endpoints) i nowhere) in
+    outcome (m .code) (with-met d i m)
+
+abbrev pub in-at : Fate → Toggle → Devices → ℕ → Outcome
+in-at fate toggle d i =
+    let m = in-met fate toggle (getD (d .endpoints) i nowhere) in
+    record { code = m .code; devices = with-met d i m; bytes = first (getD (d .endpoints) i nowhere .waiting) }
+
+-- a place past the last endpoint is none: result 14, and nothing changes
+unfoldable pub at-place : (Devices → ℕ → Outcome) → Devices → ℕ → Outcome
+at-place f d i = cond (ltb i (length (d .endpoints))) (f d i) (outcome 14 d)
+
+-- where no endpoint has the address no device answers: result 14, and nothing changes
+unfoldable pub at-address : ℕ → Outcome → Devices → Outcome
+at-address address o d = cond (lives address (d .endpoints)) o (outcome 14 d)
+
+-- a SETUP that the devices at this address may hear: NAK and STALL are no answers to it, so it is lost with 14
+abbrev pub setup-met : ℕ → List ℕ → Devices → Fate → Outcome
+setup-met address bytes d Arrives = outcome 0 (after-setup address bytes d)
+setup-met address bytes d (Lost code) = outcome code d
+setup-met address bytes d (Unheard code) = outcome code (after-setup address bytes d)
+setup-met address bytes d Nak = outcome 14 d
+setup-met address bytes d Stall = outcome 14 d
+
+-- the code of an HS-IN that the devices at this address may hear: whether the last setup was good. Nothing on a device changes
+abbrev pub hs-code : ℕ → Devices → Fate → ℕ
+hs-code address d Arrives = cond (heard-good address (d .heard)) 0 5
+hs-code address d (Lost code) = code
+hs-code address d (Unheard code) = cond (heard-good address (d .heard)) 0 5
+hs-code address d Nak = 4
+hs-code address d Stall = 5
+
+-- what comes of each of the four transactions, at the address, under the fate
 module _ (address : ℕ) (fate : Fate) (d : Devices) where
-  -- OUT at one endpoint: 14 where there is none
-  unfoldable pub out-outcome : ℕ → Toggle → List ℕ → Outcome
-  out-outcome number toggle bytes =
-      let i = place address number Out (d .endpoints) in
-      let m = out-met fate toggle bytes (getD (d .endpoints) i nowhere) in
-      cond (ltb i (length (d .endpoints))) (outcome (m .code) (with-met d i m)) (outcome 14 d)
+  abbrev pub out-outcome : ℕ → Toggle → List ℕ → Outcome
+  out-outcome number toggle bytes = at-place (out-at fate toggle bytes) d (place address number Out (d .endpoints))
 
-  -- IN at one endpoint: 14 where there is none
-  unfoldable pub in-outcome : ℕ → Toggle → Outcome
-  in-outcome number toggle =
-      let i = place address number In (d .endpoints) in
-      let m = in-met fate toggle (getD (d .endpoints) i nowhere) in
-      cond (ltb i (length (d .endpoints)))
-      (record { code = m .code; devices = with-met d i m; bytes = first (getD (d .endpoints) i nowhere .waiting) })
-      (outcome 14 d)
+  abbrev pub in-outcome : ℕ → Toggle → Outcome
+  in-outcome number toggle = at-place (in-at fate toggle) d (place address number In (d .endpoints))
 
-  -- a SETUP that some device at this address may hear: NAK and STALL are no answers to it, so it is lost with 14
-  abbrev pub setup-fate : Fate → List ℕ → Outcome
-  setup-fate Arrives bytes = outcome 0 (after-setup address bytes d)
-  setup-fate (Lost code) bytes = outcome code d
-  setup-fate (Unheard code) bytes = outcome code (after-setup address bytes d)
-  setup-fate Nak bytes = outcome 14 d
-  setup-fate Stall bytes = outcome 14 d
+  abbrev pub setup-outcome : List ℕ → Outcome
+  setup-outcome bytes = at-address address (setup-met address bytes d fate) d
 
-  unfoldable pub setup-outcome : List ℕ → Outcome
-  setup-outcome bytes = cond (lives address (d .endpoints)) (setup-fate fate bytes) (outcome 14 d)
-
-  -- an HS-IN that some device at this address may hear: whether it did what the last setup asked. Nothing on a device changes
-  abbrev pub hs-code : Fate → ℕ
-  hs-code Arrives = cond (heard-good address (d .heard)) 0 5
-  hs-code (Lost code) = code
-  hs-code (Unheard code) = cond (heard-good address (d .heard)) 0 5
-  hs-code Nak = 4
-  hs-code Stall = 5
-
-  unfoldable pub hs-outcome : Outcome
-  hs-outcome = cond (lives address (d .endpoints)) (outcome (hs-code fate) d) (outcome 14 d)
+  abbrev pub hs-outcome : Outcome
+  hs-outcome = at-address address (outcome (hs-code address d fate) d) d
