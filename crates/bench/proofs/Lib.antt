@@ -1,3 +1,5 @@
+mod Carriages
 mod Fronts
 mod Offers
+mod Queued
 mod Rows

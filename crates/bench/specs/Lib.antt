@@ -2,3 +2,4 @@ pub mod Rooms
 pub mod Records
 pub mod Endpoints
 pub mod Devices
+pub mod Chips

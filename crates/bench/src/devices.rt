@@ -1,7 +1,10 @@
 // The devices on the bench bus, and how they react to a transaction under a given fate. Where fates come from plays no part here.
 ghost use mathlib.Core.Path.{_≡_};
 ghost use mathlib.Core.Bool.{cond};
+ghost use mathlib.Core.List.{[], map};
 ghost use Prim.Native.Nat.{_%_};
+ghost use Rattle.std.specs.declared.option.Option.the-variants.{None};
+ghost use Rattle.bench.specs.Endpoints.{endpoint-of};
 ghost use lib.Dec.{eqb, ltb};
 ghost use lib.ListN.{length, getD};
 ghost use Rattle.port.specs.Fates.{Real};
@@ -49,11 +52,16 @@ fn clear_target(request: &[u8]) -> Option<u8>
 }
 
 impl Devices {
-    pub(crate) fn new(heap: Global) -> Devices {
+    // No devices, and no setup heard.
+    pub(crate) fn new(heap: Global) -> Devices
+        ensures { λ r. ⌜ devices-of r ≡ record { endpoints = []; heard = None } ⌝ }
+    {
         Devices { endpoints: Vec::new(heap), heard: None }
     }
 
-    pub(crate) fn endpoints(&self) -> &[DeviceEndpoint] {
+    pub(crate) fn endpoints(&self) -> &[DeviceEndpoint]
+        ensures { λ r. ⌜ map endpoint-of (now r) ≡ endpoints-of (now (self .entry)) ⌝ }
+    {
         self.endpoints.as_slice()
     }
 

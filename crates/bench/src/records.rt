@@ -12,7 +12,7 @@ pub(crate) struct ChipRecord {
     sending: Room,
     count: u8,
     setup: Room,
-    incoming: Inbox,
+    pub(crate) incoming: Inbox,
     address: u8,
     send_toggle: Toggle,
     receive_toggle: Toggle,

@@ -1,3 +1,4 @@
 pub mod Many
 pub mod Places
 pub mod Outcomes
+pub mod Codes

@@ -65,9 +65,13 @@ carried t b =
 unfoldable pub refused : Bus → Bus
 refused b = with-chip b (ends-plain 2 (b .chip))
 
+-- a legal value launches its transaction, unless a received packet holds it up
+abbrev pub started : Transaction → Bus → Bus
+started t b = cond (held t (b .chip)) (refused b) (carried t b)
+
 abbrev pub launch-of : Option Transaction → Bus → Bus
 launch-of None b = refused b
-launch-of (Some t) b = cond (held t (b .chip)) (refused b) (carried t b)
+launch-of (Some t) b = started t b
 
 unfoldable pub launch : ℕ → Bus → Bus
 launch value b = launch-of (transaction-of value) b
