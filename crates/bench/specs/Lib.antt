@@ -3,3 +3,4 @@ pub mod Records
 pub mod Endpoints
 pub mod Devices
 pub mod Chips
+pub mod Setups

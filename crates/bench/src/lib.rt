@@ -5,9 +5,13 @@ mod devices;
 mod endpoints;
 mod inboxes;
 mod packets;
+mod plans;
 mod queues;
 mod records;
 mod rooms;
 
 pub use chips::BenchChip;
+pub use chips::BenchPort;
 pub use endpoints::DeviceEndpoint;
+pub use plans::EndpointPlan;
+pub use plans::SetupError;

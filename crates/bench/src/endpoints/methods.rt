@@ -9,13 +9,48 @@ ghost use Rattle.port.specs.Endpoints.{stands-at, cleared, halt, handed};
 ghost use Rattle.port.specs.Reactions.{out-reaches, out-met, in-reaches, in-met, first};
 ghost use Rattle.bench.specs.Records.{inbox-bytes};
 ghost use Rattle.bench.specs.Endpoints.{endpoint-of};
+ghost use Rattle.bench.specs.Setups.{planned, more-waiting};
+ghost use Rattle.std.specs.Results.{Cases};
+ghost use Rattle.std.specs.Vec.{made};
+ghost use Prim.Native.Nat.{_≤_};
 use super::DeviceEndpoint;
 use crate::inboxes::Inbox;
+use crate::packets::Packet;
+use crate::plans::EndpointPlan;
+use crate::rooms::Room;
 use port::Direction;
 use port::Fate;
 use port::Toggle;
+use std::alloc::AllocError;
+use std::alloc::Global;
+use std::collections::VecDeque;
 
 impl DeviceEndpoint {
+    pub(crate) fn new(heap: Global, plan: EndpointPlan) -> Result<DeviceEndpoint, AllocError>
+        ensures { λ r. ⌜ made r (λ e. endpoint-of e ≡ planned plan) ⌝ }
+    {
+        let taken = Room::new(heap, plan.capacity as usize)?;
+        Ok(DeviceEndpoint {
+            address: plan.address,
+            number: plan.number,
+            direction: plan.direction,
+            toggle: Toggle::from_number(plan.toggle),
+            halted: plan.halted,
+            taken,
+            waiting: VecDeque::new(heap),
+        })
+    }
+
+    // One packet more waits.
+    pub(crate) fn add_packet(&mut self, bytes: &[u8]) -> Result<(), AllocError>
+        requires { ⌜ length (now bytes) ≤ 64 ⌝ }
+        ensures { λ r. ⌜ Cases r (λ _. endpoint-of (now (self .exit)) ≡ more-waiting (now (bytes .entry)) (endpoint-of (now (self .entry)))) (λ _. endpoint-of (now (self .exit)) ≡ endpoint-of (now (self .entry))) ⌝ }
+    {
+        let packet = Packet::new(self.waiting.allocator(), bytes)?;
+        self.waiting.push_back(packet)?;
+        Ok(())
+    }
+
     pub(crate) fn stands_at(&self, address: u8, number: u8, direction: Direction) -> bool
         ensures { λ r. ⌜ r ≡ stands-at address number direction (endpoint-of (now (self .entry))) ⌝ }
     {

@@ -1,6 +1,9 @@
 // What a person may see of an endpoint.
 ghost use mathlib.Core.Path.{_≡_};
-ghost use lib.ListN.{length};
+ghost use mathlib.Core.List.{[]};
+ghost use Prim.Native.Nat.{_≤_, _<_};
+ghost use lib.ListN.{length, getD};
+ghost use Rattle.std.specs.Options.{Cases};
 ghost use Rattle.bench.specs.Endpoints.{endpoint-of};
 use super::DeviceEndpoint;
 use port::Direction;
@@ -55,5 +58,15 @@ impl DeviceEndpoint {
         ensures { λ r. ⌜ r ≡ length (endpoint-of (now (self .entry)) .waiting) ⌝ }
     {
         self.waiting.len()
+    }
+
+    // The bytes of the packet at this place in the row, the first at 0.
+    pub fn packet(&self, place: usize) -> Option<&[u8]>
+        ensures { λ r. ⌜ Cases r (length (endpoint-of (now (self .entry)) .waiting) ≤ place) (λ bytes. (place < length (endpoint-of (now (self .entry)) .waiting)) × (now bytes ≡ getD (endpoint-of (now (self .entry)) .waiting) place [])) ⌝ }
+    {
+        match self.waiting.get(place) {
+            Some(packet) => Some(packet.as_slice()),
+            None => None,
+        }
     }
 }
