@@ -1,15 +1,20 @@
 -- The endpoints in memory as the list that they stand for: one of them, and a change of one. Assumes nothing.
 use mathlib.Core.Path.{_≡_, refl, sym, ap, subst, _∙_}
-use mathlib.Core.Bool.{Bool, true, false}
+use mathlib.Core.Bool.{Bool, true, false, _&&_}
 use mathlib.Core.List.{List, map}
 use Prim.Native.Nat.{ℕ, _+_, _≤_, _<_}
 use native.Mathlib.Omega.{arith}
-use lib.Dec.{eqb, ltb}
-use Rattle.std.proofs.shelf.Tests.{lt-ltb, le-ltb}
+use lib.Dec.{eqb, leb, ltb}
+use Rattle.std.proofs.shelf.Tests.{lt-ltb, le-ltb, ltb-true, leb-true, and-parts}
 use lib.ListN.{length, getD, set, drop}
 use Rattle.std.specs.Changed.{with-item}
+use Rattle.std.specs.Results.{Cases}
+use Rattle.std.specs.declared.alloc.AllocError.{AllocError}
+use Rattle.std.specs.declared.result.Result.{Result}
+use Rattle.std.specs.declared.result.Result.the-variants.{Ok, Err}
+use Rattle.bench.specs.Setups.{more-waiting, more-packets, packet-fits, packet-place}
 use Rattle.std.specs.Of.Vec.{vec-items, vec-len}
-use Rattle.std.proofs.shelf.Lists.{length-map, getD-map, map-set, set-past}
+use Rattle.std.proofs.shelf.Lists.{length-map, getD-map, map-set, set-past, set-getD}
 use Rattle.port.specs.declared.directions.Direction.{Direction}
 use Rattle.port.specs.Endpoints.{Endpoint, nowhere, cleared, stands-at, place, lives}
 use Rattle.port.specs.Devices.{Devices as Meant, with-endpoints, cleared-at}
@@ -87,3 +92,16 @@ module _ (d : Devices) (i p : ℕ) (place-is : i ≡ p) where
   none-cleared h =
       let c = row-count in
       sym (ap (with-endpoints (devices-of d)) (set-past (endpoints-of d) p (cleared (getD (endpoints-of d) p nowhere)) (omega arith)))
+
+  -- a packet was added to the endpoint at i, or none was, for want of memory
+  pub packet-added : (r : Result (Unit {0}) AllocError) (x y : DeviceEndpoint) (bytes : List ℕ) → i < vec-len (d .endpoints) → x ≡ getD (vec-items (d .endpoints)) i x → Cases r (λ _. endpoint-of y ≡ more-waiting bytes (endpoint-of x)) (λ _. endpoint-of y ≡ endpoint-of x) → Cases r (λ _. devices-of (record { endpoints = with-item (d .endpoints) i y; heard = d .heard }) ≡ more-packets p bytes (devices-of d)) (λ _. devices-of (record { endpoints = with-item (d .endpoints) i y; heard = d .heard }) ≡ devices-of d)
+  packet-added (Ok u) x y bytes h e f = after-met y _ (f ∙ sym (ap (more-waiting bytes) (met-at x h e))) ∙ ap (λ k. more-packets k bytes (devices-of d)) place-is
+  packet-added (Err u) x y bytes h e f = after-met y _ (f ∙ sym (met-at x h e)) ∙ ap (with-endpoints (devices-of d)) (set-getD (endpoints-of d) i nowhere)
+
+-- a packet that fits is short, and its endpoint is there
+pub packet-parts : (a n : ℕ) (bytes : List ℕ) (d : Devices) → packet-fits a n bytes (devices-of d) ≡ true → (length bytes ≤ 64) × (packet-place a n (devices-of d) < vec-len (d .endpoints))
+packet-parts a n bytes d h =
+    let i = packet-place a n (devices-of d) in
+    let parts = and-parts (leb (length bytes) 64) (ltb i (length (endpoints-of d)) && ltb (length (getD (endpoints-of d) i nowhere .waiting)) 16) h in
+    let within = ltb-true i (length (endpoints-of d)) (and-parts (ltb i (length (endpoints-of d))) (ltb (length (getD (endpoints-of d) i nowhere .waiting)) 16) (parts .1) .0) in
+    (leb-true (length bytes) 64 (parts .0), let c = row-count d 0 0 refl in omega arith)

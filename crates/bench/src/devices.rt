@@ -21,6 +21,8 @@ use port::Heard;
 use port::Toggle;
 use std::alloc::Global;
 
+mod setups;
+
 #[derive(Drop)]
 pub(crate) struct Devices {
     endpoints: Vec<DeviceEndpoint>,

@@ -29,6 +29,16 @@ impl FateQueue {
         self.bytes.len()
     }
 
+    // The fate that comes next.
+    pub(crate) fn peek(&self) -> Fate
+        ensures { λ r. ⌜ r ≡ next-fate (queue-bytes (now (self .entry))) ⌝ }
+    {
+        match self.bytes.front() {
+            Some(byte) => Fate::read(*byte),
+            None => Fate::Lost(14),
+        }
+    }
+
     // The next fate; when there are none, lost with code 14.
     pub(crate) fn take(&mut self) -> Fate
         ensures value { λ r. ⌜ r ≡ next-fate (queue-bytes (now (self .entry))) ⌝ }
