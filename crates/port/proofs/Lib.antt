@@ -1,4 +1,8 @@
 pub mod Many
+pub mod Single
 pub mod Places
 pub mod Outcomes
 pub mod Codes
+mod Endings
+mod Growth
+mod Others

@@ -9,3 +9,4 @@ pub mod Reactions
 pub mod Bus
 pub mod Launches
 pub mod Accesses
+pub mod Laws

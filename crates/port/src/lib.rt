@@ -2,6 +2,7 @@
 pub mod accesses;
 pub mod directions;
 pub mod fates;
+pub mod laws;
 pub mod registers;
 pub mod setups;
 pub mod toggles;
