@@ -4,8 +4,8 @@ ghost use mathlib.Core.Path.{_≡_};
 ghost use mathlib.Core.List.{[]};
 ghost use Rattle.std.specs.declared.option.Option.the-variants.{Some, None};
 ghost use lib.ListN.{length};
-ghost use Rattle.port.specs.Accesses.{after-put, got, after-get};
-ghost use Rattle.attempt.specs.Tries.{begun, send-control, receive-control, out-value, in-value, code-of, send-bit, receive-bit, out-answer, after-out, stage-answer, after-stage, arrived, room-read, after-read, in-answer, in-arrival, in-room, after-in};
+ghost use Rattle.port.specs.Accesses.{got};
+ghost use Rattle.attempt.specs.Tries.{begun, send-control, receive-control, launched, result-got, out-answer, after-out, stage-answer, after-stage, arrived, room-read, after-read, in-answer, in-arrival, in-room, after-in};
 use crate::packets::Packet;
 use crate::receipts::launch;
 use crate::receipts::result;
@@ -69,6 +69,15 @@ fn begin<P: Port>(port: &mut P, address: u8, control: Option<u8>)
     }
 }
 
+// The middle of every try: the launch, and its result by R31.
+fn transact<P: Port>(port: &mut P, value: u8) -> u8
+    ensures status { λ r. ⌜ r ≡ got 31 (launched value (meaning (now (port .entry)))) ⌝ }
+    ensures after { λ _. ⌜ meaning (now (port .exit)) ≡ result-got (launched value (meaning (now (port .entry)))) ⌝ }
+{
+    let receipt = launch(port, value);
+    result(port, receipt)
+}
+
 // OUT: sends the packet to an endpoint, and answers with the result code and the send toggle after it.
 pub fn try_out<P: Port>(port: &mut P, address: u8, endpoint: u8, toggle: Toggle, packet: Packet) -> (u8, u8)
     ensures answer { λ r. ⌜ r ≡ out-answer address endpoint toggle (now (packet .entry .bytes)) (meaning (now (port .entry))) ⌝ }
@@ -78,8 +87,7 @@ pub fn try_out<P: Port>(port: &mut P, address: u8, endpoint: u8, toggle: Toggle,
     begin(port, address, Some(send_control(toggle)));
     port.put_many(SNDFIFO, bytes);
     port.put(SNDBC, bytes.len() as u8);
-    let receipt = launch(port, LAUNCH_OUT + endpoint % 16);
-    let status = result(port, receipt);
+    let status = transact(port, LAUNCH_OUT + endpoint % 16);
     port.put(HIRQ, HXFRDN);
     (status % 16, status / 32 % 2)
 }
@@ -91,8 +99,7 @@ fn try_stage<P: Port>(port: &mut P, address: u8, value: u8, setup: &[u8]) -> (u8
 {
     begin(port, address, None);
     port.put_many(SUDFIFO, setup);
-    let receipt = launch(port, value);
-    let status = result(port, receipt);
+    let status = transact(port, value);
     port.put(HIRQ, HXFRDN);
     (status % 16, 0)
 }
@@ -137,8 +144,7 @@ pub fn try_in<P: Port>(port: &mut P, address: u8, endpoint: u8, toggle: Toggle, 
     ensures after { λ _. ⌜ meaning (now (port .exit)) ≡ after-in address endpoint toggle (now (room .entry)) (meaning (now (port .entry))) ⌝ }
 {
     begin(port, address, Some(receive_control(toggle)));
-    let receipt = launch(port, endpoint % 16);
-    let status = result(port, receipt);
+    let status = transact(port, endpoint % 16);
     let answer = (status % 16, status / 16 % 2);
     if answer.0 != 0 {
         port.put(HIRQ, HXFRDN);

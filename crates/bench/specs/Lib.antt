@@ -1,6 +1,7 @@
 pub mod Rooms
 pub mod Records
 pub mod Endpoints
+pub mod Views
 pub mod Devices
 pub mod Chips
 pub mod Setups

@@ -84,7 +84,7 @@ impl Devices {
         ensures { λ r. ⌜ r ≡ lives address (endpoints-of (now (self .entry))) ⌝ }
     {
         for endpoint in self.endpoints.iter() {
-            if endpoint.address() == address {
+            if endpoint.has_address(address) {
                 return true;
             }
         }

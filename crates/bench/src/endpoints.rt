@@ -8,6 +8,8 @@ use std::collections::VecDeque;
 mod methods;
 mod views;
 
+pub use views::EndpointState;
+
 #[derive(Drop)]
 pub struct DeviceEndpoint {
     address: u8,

@@ -13,5 +13,6 @@ mod rooms;
 pub use chips::BenchChip;
 pub use chips::BenchPort;
 pub use endpoints::DeviceEndpoint;
+pub use endpoints::EndpointState;
 pub use plans::EndpointPlan;
 pub use plans::SetupError;

@@ -40,18 +40,19 @@ fn direction_word(direction: Direction) -> &'static str {
 
 // One endpoint.
 pub fn push_endpoint(heap: Global, out: &mut String, endpoint: &DeviceEndpoint) -> Result<(), AllocError> {
-    let address = endpoint.address();
-    let number = endpoint.number();
-    let direction = direction_word(endpoint.direction());
-    let toggle = endpoint.toggle().number();
-    let life = if endpoint.halted() { "halted" } else { "live" };
-    let capacity = endpoint.capacity();
+    let state = endpoint.state();
+    let address = state.address;
+    let number = state.number;
+    let direction = direction_word(state.direction);
+    let toggle = state.toggle.number();
+    let life = if state.halted { "halted" } else { "live" };
+    let capacity = state.capacity;
     let head = format!(heap, "cell {address} {number} {direction} toggle {toggle} {life} capacity {capacity} ")?;
     out.push_str(head.as_str())?;
-    match endpoint.direction() {
+    match state.direction {
         Direction::Out => {
             out.push_str("taken ")?;
-            push_hex(heap, out, endpoint.taken())?;
+            push_hex(heap, out, state.taken)?;
         }
         Direction::In => {
             out.push_str("waiting")?;

@@ -51,6 +51,12 @@ impl DeviceEndpoint {
         Ok(())
     }
 
+    pub(crate) fn has_address(&self, address: u8) -> bool
+        ensures { λ r. ⌜ r ≡ eqb (endpoint-of (now (self .entry)) .address) address ⌝ }
+    {
+        self.address == address
+    }
+
     pub(crate) fn stands_at(&self, address: u8, number: u8, direction: Direction) -> bool
         ensures { λ r. ⌜ r ≡ stands-at address number direction (endpoint-of (now (self .entry))) ⌝ }
     {

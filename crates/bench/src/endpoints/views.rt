@@ -5,52 +5,37 @@ ghost use Prim.Native.Nat.{_≤_, _<_};
 ghost use lib.ListN.{length, getD};
 ghost use Rattle.std.specs.Options.{Cases};
 ghost use Rattle.bench.specs.Endpoints.{endpoint-of};
+ghost use Rattle.bench.specs.Views.{Shows};
 use super::DeviceEndpoint;
 use port::Direction;
 use port::Toggle;
 
+// An endpoint's state but for the packets that wait.
+#[derive(Clone, Copy)]
+pub struct EndpointState<'a> {
+    pub address: u8,
+    pub number: u8,
+    pub direction: Direction,
+    pub toggle: Toggle,
+    pub halted: bool,
+    pub capacity: usize,
+    // the bytes taken so far, in order
+    pub taken: &'a [u8],
+}
+
 impl DeviceEndpoint {
-    pub fn address(&self) -> u8
-        ensures { λ r. ⌜ r ≡ endpoint-of (now (self .entry)) .address ⌝ }
+    pub fn state(&self) -> EndpointState<'_>
+        ensures { λ r. ⌜ Shows (endpoint-of (now (self .entry))) r ⌝ }
     {
-        self.address
-    }
-
-    pub fn number(&self) -> u8
-        ensures { λ r. ⌜ r ≡ endpoint-of (now (self .entry)) .number ⌝ }
-    {
-        self.number
-    }
-
-    pub fn direction(&self) -> Direction
-        ensures { λ r. ⌜ r ≡ endpoint-of (now (self .entry)) .direction ⌝ }
-    {
-        self.direction
-    }
-
-    pub fn toggle(&self) -> Toggle
-        ensures { λ r. ⌜ r ≡ endpoint-of (now (self .entry)) .toggle ⌝ }
-    {
-        self.toggle
-    }
-
-    pub fn halted(&self) -> bool
-        ensures { λ r. ⌜ r ≡ endpoint-of (now (self .entry)) .halted ⌝ }
-    {
-        self.halted
-    }
-
-    pub fn capacity(&self) -> usize
-        ensures { λ r. ⌜ r ≡ endpoint-of (now (self .entry)) .capacity ⌝ }
-    {
-        self.taken.size()
-    }
-
-    // The bytes taken so far, in order.
-    pub fn taken(&self) -> &[u8]
-        ensures { λ r. ⌜ now r ≡ endpoint-of (now (self .entry)) .taken ⌝ }
-    {
-        self.taken.as_slice()
+        EndpointState {
+            address: self.address,
+            number: self.number,
+            direction: self.direction,
+            toggle: self.toggle,
+            halted: self.halted,
+            capacity: self.taken.size(),
+            taken: self.taken.as_slice(),
+        }
     }
 
     // How many packets wait.

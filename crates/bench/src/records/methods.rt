@@ -3,7 +3,7 @@ ghost use Prim.Native.Nat.{_<_};
 ghost use lib.ListN.{length, getD};
 ghost use Rattle.std.specs.Vec.{made};
 ghost use Rattle.port.specs.Chip.{fresh-chip, load-sending, load-setup, set-count, clear-flags, set-address, set-toggles, take-incoming, flags, status, packet, request, toggled, has-bit};
-ghost use Rattle.port.specs.Launches.{ends-plain, ends-out, ends-in};
+ghost use Rattle.port.specs.Launches.{advanced, ends-plain, ends-out, ends-in};
 ghost use Rattle.bench.specs.Records.{chip-of, with-sending, with-setup};
 use super::ChipRecord;
 use crate::inboxes::Inbox;
@@ -37,6 +37,13 @@ fn set_toggle(to1: bool, to0: bool, toggle: Toggle) -> Toggle
         (false, true) => Toggle::Data0,
         _ => toggle,
     }
+}
+
+// A toggle after a transaction with this result: it flips on result 0 and on no other.
+fn advanced(code: u8, toggle: Toggle) -> Toggle
+    ensures { λ r. ⌜ r ≡ advanced code toggle ⌝ }
+{
+    if code == 0 { toggle.flipped() } else { toggle }
 }
 
 impl ChipRecord {
@@ -212,9 +219,7 @@ impl ChipRecord {
         requires { ⌜ code < 16 ⌝ }
         ensures { λ _. ⌜ chip-of (now (self .exit)) ≡ ends-out code (chip-of (now (self .entry))) ⌝ }
     {
-        if code == 0 {
-            self.send_toggle = self.send_toggle.flipped();
-        }
+        self.send_toggle = advanced(code, self.send_toggle);
         self.finish(code);
     }
 
@@ -224,9 +229,9 @@ impl ChipRecord {
         requires { ⌜ code < 16 ⌝ }
         ensures { λ _. ⌜ chip-of (now (self .exit)) ≡ ends-in code (chip-of (now (self .entry)) .incoming) (chip-of (now (self .entry))) ⌝ }
     {
+        self.receive_toggle = advanced(code, self.receive_toggle);
         if code == 0 {
             self.received = true;
-            self.receive_toggle = self.receive_toggle.flipped();
         }
         self.finish(code);
     }
