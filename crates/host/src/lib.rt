@@ -1,0 +1,17 @@
+// The host: eight pipes over any port, and the calls open, send, recover, look and close.
+mod answers;
+
+mod counting;
+
+
+mod pipes;
+mod refusals;
+
+mod tables;
+
+pub use answers::Answer;
+pub use answers::Looked;
+
+pub use pipes::Pipe;
+pub use pipes::Standing;
+pub use refusals::Refusal;
