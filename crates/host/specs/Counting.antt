@@ -5,6 +5,9 @@ use lib.Dec.{eqb, leb}
 use Rattle.host.specs.declared.counting.Counts.{Counts}
 use Rattle.host.specs.declared.counting.Verdict.{Verdict}
 use Rattle.host.specs.declared.counting.Verdict.the-variants.{Succeeded, Again, Stop}
+use Rattle.std.specs.declared.option.Option.{Option}
+use Rattle.std.specs.declared.option.Option.the-variants.{Some, None}
+use Rattle.host.specs.declared.refusals.Refusal.{Refusal}
 use Rattle.host.specs.declared.refusals.Refusal.the-variants.{NakLimit, ThirdMiss, Stalled}
 
 -- three misses, and as many NAKs as the limit, are left
@@ -34,3 +37,9 @@ abbrev pub succeeded : Verdict → Bool
 succeeded Succeeded = true
 succeeded Again = false
 succeeded (Stop refusal) = false
+
+-- why a verdict stops, if it does
+abbrev pub stop-of : Verdict → Option Refusal
+stop-of Succeeded = None
+stop-of Again = None
+stop-of (Stop refusal) = Some refusal

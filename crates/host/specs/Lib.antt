@@ -3,3 +3,5 @@ pub mod Answers
 pub mod Standings
 pub mod Counting
 pub mod Tables
+pub mod Machines
+pub mod Sending

@@ -1,6 +1,6 @@
 // Counting the tries of one packet, or of one stage of a control request.
 ghost use mathlib.Core.Path.{_≡_};
-ghost use Rattle.host.specs.Counting.{fresh-counts, verdict, counted};
+ghost use Rattle.host.specs.Counting.{fresh-counts, verdict, counted, succeeded, stop-of};
 use crate::refusals::Refusal;
 
 // the tries without an answer that stop a packet or stage
@@ -22,6 +22,29 @@ pub(crate) enum Verdict {
     Succeeded,
     Again,
     Stop(Refusal),
+}
+
+impl Verdict {
+    pub(crate) fn succeeded(self) -> bool
+        ensures { λ r. ⌜ r ≡ succeeded self ⌝ }
+    {
+        match self {
+            Verdict::Succeeded => true,
+            Verdict::Again => false,
+            Verdict::Stop(_) => false,
+        }
+    }
+
+    // Why it stops, if it does.
+    pub(crate) fn refusal(self) -> Option<Refusal>
+        ensures { λ r. ⌜ r ≡ stop-of self ⌝ }
+    {
+        match self {
+            Verdict::Succeeded => None,
+            Verdict::Again => None,
+            Verdict::Stop(refusal) => Some(refusal),
+        }
+    }
 }
 
 impl Counts {

@@ -6,6 +6,7 @@ mod counting;
 
 mod pipes;
 mod refusals;
+mod sending;
 
 mod tables;
 
