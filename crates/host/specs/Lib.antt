@@ -5,3 +5,4 @@ pub mod Counting
 pub mod Tables
 pub mod Machines
 pub mod Sending
+pub mod Opening

@@ -4,6 +4,7 @@ mod answers;
 mod counting;
 
 
+mod opening;
 mod pipes;
 mod refusals;
 mod sending;
