@@ -6,3 +6,5 @@ pub mod Tables
 pub mod Machines
 pub mod Sending
 pub mod Opening
+pub mod Checks
+pub mod Calls

@@ -1,6 +1,7 @@
 // The host: eight pipes over any port, and the calls open, send, recover, look and close.
 mod answers;
 
+mod checks;
 mod counting;
 
 
