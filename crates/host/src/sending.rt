@@ -81,6 +81,7 @@ pub(crate) fn send<P: Port>(port: &mut P, pipe: Pipe, message: &[u8]) -> Progres
     requires { ⌜ length (now message) ≤ 1024 ⌝ }
     ensures progress { λ r. ⌜ r ≡ send-run pipe (now (message .entry)) (meaning (now (port .entry))) .progress ⌝ }
     ensures after { λ _. ⌜ meaning (now (port .exit)) ≡ send-run pipe (now (message .entry)) (meaning (now (port .entry))) .bus ⌝ }
+    ensures within { λ r. ⌜ r .sent ≤ length (now (message .entry)) ⌝ }
 {
     let mut progress = Progress::new(pipe);
     let budget = message.len() as u32 * (pipe.limit as u32 + 3);

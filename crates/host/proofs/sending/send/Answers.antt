@@ -26,7 +26,7 @@ returns-then-not-going g c =
     let p = c .args .pipe in
     let m = c .args .message .now in
     let e = turn-still (send-going p m) (send-step p m) (send-budget p m) (c .loop .counter) (sending (c .loop .progress) (g .P·Port .meaning (c .loop .port))) _ (c .loop .inv .0) (c .if-not-going .ensures tt) in
-    record { progress = ap (λ s. s .progress) e; after = ap (λ s. s .bus) e }
+    record { progress = ap (λ s. s .progress) e; after = ap (λ s. s .bus) e; within = c .loop .inv .2 }
 
 pub step-requires : need.step-requires
 step-requires g c κs = record { tries = omega (arith, c .loop .inv .1); sent = c .loop .inv .2 }
@@ -49,4 +49,4 @@ returns g c =
     let p = c .args .pipe in
     let m = c .args .message .now in
     let e = turn-last (send-going p m) (send-step p m) (send-budget p m) (c .loop .counter) (sending (c .loop .progress) (g .P·Port .meaning (c .loop .port))) _ (c .loop .inv .0) (c .loop-test .left) in
-    record { progress = ap (λ s. s .progress) e; after = ap (λ s. s .bus) e }
+    record { progress = ap (λ s. s .progress) e; after = ap (λ s. s .bus) e; within = c .loop .inv .2 }
