@@ -1,3 +1,4 @@
 mod Runs
 mod Searches
 mod Steps
+mod OutTry

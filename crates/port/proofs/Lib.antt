@@ -5,4 +5,4 @@ pub mod Outcomes
 pub mod Codes
 mod Endings
 mod Growth
-mod Others
+pub mod Others

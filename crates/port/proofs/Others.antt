@@ -84,10 +84,10 @@ module _ (a k : ℕ) (bytes : List ℕ) (d : Devices) (other : (ee : ℕ) → cl
   setup-kept Stall = refl
 
 -- the legal values of OUT and IN
-is-out : (number : ℕ) → 1 ≤ number → number ≤ 15 → transaction-of (0x20 + number) ≡ Some (Out number)
+pub is-out : (number : ℕ) → 1 ≤ number → number ≤ 15 → transaction-of (0x20 + number) ≡ Some (Out number)
 is-out number low high = grind (arith, tells)
 
-is-in : (number : ℕ) → 1 ≤ number → number ≤ 15 → transaction-of number ≡ Some (In number)
+pub is-in : (number : ℕ) → 1 ≤ number → number ≤ 15 → transaction-of number ≡ Some (In number)
 is-in number low high = grind (arith, tells)
 
 out-kept : (b : Bus) (number k : ℕ) → stands-at (b .chip .address) number directions.Out (getD (b .devices .endpoints) k nowhere) ≡ false → Kept-at k (b .devices) (carried (Out number) b .devices)
