@@ -1,4 +1,12 @@
+mod Accounted
+mod Accounts
+mod Budgets
+mod Declines
+mod Judging
+mod OutTry
+mod Reaches
+mod Replies
 mod Runs
 mod Searches
+mod Sent
 mod Steps
-mod OutTry

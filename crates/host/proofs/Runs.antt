@@ -1,5 +1,7 @@
 -- A step machine's run, one turn after another. Assumes nothing.
-use mathlib.Core.Path.{_≡_, refl, sym, ap, _∙_}
+use mathlib.Core.Path.{_≡_, refl, sym, ap, subst, _∙_}
+use mathlib.Core.Logic.{⊎-elim}
+use Rattle.std.proofs.shelf.Tests.{cond-both, cases-bool}
 use mathlib.Core.Bool.{Bool, true, false, cond}
 use Prim.Native.Nat.{ℕ, zero, suc, _+_, _-_, _≤_, _<_}
 use native.Mathlib.Omega.{arith}
@@ -33,3 +35,22 @@ module _ {S : Type 0} (going : S → Bool) (step : S → S) where
     turn-last h =
         let none : budget - i ≡ 0 = omega arith in
         sym (run-none s) ∙ sym (ap (λ n. run going step n s) none) ∙ inv
+
+  -- what each step keeps holds at the end
+  pub run-keeps : (P : S → Type 0) → ((s : S) → P s → going s ≡ true → P (step s)) → (n : ℕ) (s : S) → P s → P (run going step n s)
+  unfolding run
+  run-keeps P keep zero s h = h
+  run-keeps P keep (suc n) s h = cond-both (going s) (run going step n (step s)) s P (λ g. run-keeps P keep n (step s) (keep s h g)) (λ _. h)
+
+  -- a machine whose measure falls while it goes on comes to an end within a budget that the measure does not pass
+  pub run-ends : (P : S → Type 0) (μ : S → ℕ) → ((s : S) → P s → going s ≡ true → P (step s)) → ((s : S) → P s → going s ≡ true → 0 < μ s) → ((s : S) → P s → going s ≡ true → going (step s) ≡ true → μ (step s) < μ s) → (n : ℕ) (s : S) → P s → (going s ≡ true → μ s ≤ n) → going (run going step n s) ≡ false
+  run-ends P μ keep some falls zero s h within =
+      subst (λ x. going x ≡ false) (sym (run-none s))
+      (⊎-elim (λ g. let a = some s h g in let b = within g in absurd (omega arith)) (λ f. f) (cases-bool (going s)))
+  run-ends P μ keep some falls (suc n) s h within =
+      ⊎-elim
+      (λ g.
+          subst (λ x. going x ≡ false) (sym (run-step n s g))
+          (run-ends P μ keep some falls n (step s) (keep s h g) (λ g′. let a = falls s h g g′ in let b = within g in omega arith)))
+      (λ f. subst (λ x. going x ≡ false) (sym (run-still (suc n) s f)) f)
+      (cases-bool (going s))

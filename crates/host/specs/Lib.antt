@@ -8,3 +8,5 @@ pub mod Sending
 pub mod Opening
 pub mod Checks
 pub mod Calls
+pub mod Laws
+pub mod Cases

@@ -1,8 +1,10 @@
 // The host: eight pipes over any port, and the calls open, send, recover, look and close.
 mod answers;
+pub mod cases;
 mod checks;
 mod counting;
 mod hosts;
+pub mod laws;
 mod opening;
 mod pipes;
 mod refusals;
