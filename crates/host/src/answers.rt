@@ -1,8 +1,18 @@
 // What a call answers.
 ghost use mathlib.Core.Path.{_≡_};
-ghost use Rattle.host.specs.Answers.{answer-number, looked-number};
+ghost use Rattle.host.specs.Answers.{number-of, answer-number, looked-number};
 use crate::pipes::Standing;
 use crate::refusals::Refusal;
+
+// 0 for success, else the refusal's number.
+fn number_of(refusal: Option<Refusal>) -> u8
+    ensures { λ r. ⌜ r ≡ number-of refusal ⌝ }
+{
+    match refusal {
+        Some(refusal) => refusal.number(),
+        None => 0,
+    }
+}
 
 // The answer of open, send, recover and close. What a call does not name is 0, and so is all but the refusal where it declined.
 #[derive(Clone, Copy)]
@@ -24,10 +34,7 @@ impl Answer {
     pub fn number(self) -> u8
         ensures { λ r. ⌜ r ≡ answer-number self ⌝ }
     {
-        match self.refusal {
-            Some(refusal) => refusal.number(),
-            None => 0,
-        }
+        number_of(self.refusal)
     }
 }
 
@@ -44,9 +51,6 @@ impl Looked {
     pub fn number(self) -> u8
         ensures { λ r. ⌜ r ≡ looked-number self ⌝ }
     {
-        match self.refusal {
-            Some(refusal) => refusal.number(),
-            None => 0,
-        }
+        number_of(self.refusal)
     }
 }
