@@ -1,5 +1,8 @@
-// What is said of a try.
+// What is said of a try, and of the answers of the host.
+use host::Answer;
+use host::Refusal;
 use port::Fate;
+use std::error::AnyError;
 use std::fmt;
 
 // One try: what was sent or asked for, what became of it on the bus, and the result code that the chip gave.
@@ -38,4 +41,37 @@ pub impl fmt::Display for Tried<'_> as TriedDisplay {
         let verdict = verdict(self.code);
         write!(f, "  {what}: {bus}; result {code}, {verdict}")
     }
+}
+
+// Why a call of the host declined or stopped.
+fn reason(refusal: Option<Refusal>) -> &'static str {
+    match refusal {
+        None => "done",
+        Some(Refusal::PipeDoubtful) => "declined, the pipe is in doubt",
+        Some(Refusal::PipeHalted) => "declined, the endpoint has halted",
+        Some(Refusal::NakLimit) => "stopped, the printer stayed busy",
+        Some(Refusal::ThirdMiss) => "stopped, the third try of a packet got no answer",
+        Some(Refusal::Stalled) => "stopped, the endpoint has halted",
+        Some(_) => "declined",
+    }
+}
+
+// An open or a recover.
+pub fn tell_cleared(rt: &LibcRuntime, answer: Answer) -> Result<(), AnyError> {
+    let number = answer.number();
+    let reason = reason(answer.refusal);
+    let tries = answer.tries;
+    println!(rt, "  answer {number} (tries {tries}): {reason}")?;
+    Ok(())
+}
+
+// A send.
+pub fn tell_sent(rt: &LibcRuntime, answer: Answer) -> Result<(), AnyError> {
+    let number = answer.number();
+    let reason = reason(answer.refusal);
+    let sent = answer.sent;
+    let doubtful = answer.doubtful;
+    let tries = answer.tries;
+    println!(rt, "  answer {number} (tries {tries}): {reason}; {sent} bytes sent, {doubtful} uncertain")?;
+    Ok(())
 }

@@ -1,6 +1,10 @@
 // Runs scripts, each of which describes a bus with its faults and what is done on it, and prints what came of it. The scripts are
 // the files named as arguments, each on a bus of its own; with no arguments it is standard input.
+mod buses;
+mod calling;
 mod commands;
+mod machines;
+mod preparing;
 mod reading;
 mod running;
 mod showing;

@@ -1,7 +1,12 @@
 // Reading one line of a script: words separated by single spaces, decimal numbers without leading zeros, and bytes in lower-case
 // hexadecimal. `None` is a line that is not understood.
+use crate::buses::Bus;
+use crate::commands::Call;
 use crate::commands::Command;
+use crate::commands::PipePlan;
+use crate::commands::Step;
 use bench::EndpointPlan;
+use frames::Duplex;
 use port::Direction;
 use std::alloc::AllocError;
 use std::alloc::Global;
@@ -108,7 +113,11 @@ fn plan(words: &[&str]) -> Option<EndpointPlan> {
     })
 }
 
-fn wait(heap: Global, words: &[&str]) -> Result<Option<Command>, AllocError> {
+fn cell(words: &[&str]) -> Option<Step> {
+    Some(Step::Cell(plan(words)?))
+}
+
+fn wait(heap: Global, words: &[&str]) -> Result<Option<Step>, AllocError> {
     if words.len() != 4 {
         return Ok(None);
     }
@@ -116,64 +125,157 @@ fn wait(heap: Global, words: &[&str]) -> Result<Option<Command>, AllocError> {
         return Ok(None);
     };
     match hexadecimal(heap, words[3])? {
-        Some(bytes) => Ok(Some(Command::Wait(address, number, bytes))),
+        Some(bytes) => Ok(Some(Step::Wait(address, number, bytes))),
         None => Ok(None),
     }
 }
 
-fn fates(heap: Global, words: &[&str]) -> Result<Option<Command>, AllocError> {
-    if words.len() != 2 {
-        return Ok(None);
-    }
-    match hexadecimal(heap, words[1])? {
-        Some(bytes) => Ok(Some(Command::Fates(bytes))),
+// The bytes of a line that has nothing but bytes.
+fn only_bytes(heap: Global, words: &[&str]) -> Result<Option<Vec<u8>>, AllocError> {
+    if words.len() == 2 { hexadecimal(heap, words[1]) } else { Ok(None) }
+}
+
+fn fates(heap: Global, words: &[&str]) -> Result<Option<Step>, AllocError> {
+    match only_bytes(heap, words)? {
+        Some(bytes) => Ok(Some(Step::Fates(bytes))),
         None => Ok(None),
     }
 }
 
-fn put(words: &[&str]) -> Option<Command> {
+fn frame(heap: Global, words: &[&str]) -> Result<Option<Step>, AllocError> {
+    match only_bytes(heap, words)? {
+        Some(bytes) => Ok(Some(Step::Frame(bytes))),
+        None => Ok(None),
+    }
+}
+
+fn put(words: &[&str]) -> Option<Step> {
     if words.len() != 3 {
         return None;
     }
-    Some(Command::Put(byte(words[1])?, byte(words[2])?))
+    Some(Step::Put(byte(words[1])?, byte(words[2])?))
 }
 
-fn get(words: &[&str]) -> Option<Command> {
+// The number of a line that has nothing but a number.
+fn only_byte(words: &[&str]) -> Option<u8> {
+    if words.len() == 2 { byte(words[1]) } else { None }
+}
+
+fn get(words: &[&str]) -> Option<Step> {
+    Some(Step::Get(only_byte(words)?))
+}
+
+fn drive(words: &[&str]) -> Option<Step> {
     if words.len() != 2 {
         return None;
     }
-    Some(Command::Get(byte(words[1])?))
+    match words[1] {
+        "direct" => Some(Step::Drive(Bus::Direct)),
+        "framed-half" => Some(Step::Drive(Bus::Framed(Duplex::Half))),
+        "framed-full" => Some(Step::Drive(Bus::Framed(Duplex::Full))),
+        _ => None,
+    }
 }
 
-fn cell(words: &[&str]) -> Option<Command> {
-    Some(Command::Cell(plan(words)?))
+fn pipe_plan(words: &[&str]) -> Option<PipePlan> {
+    if words.len() != 7 {
+        return None;
+    }
+    Some(PipePlan {
+        address: byte(words[2])?,
+        endpoint: byte(words[3])?,
+        direction: direction(words[4])?,
+        size: byte(words[5])?,
+        limit: byte(words[6])?,
+    })
 }
 
-// A line of words, the first of which says what is asked for.
-fn command(heap: Global, words: &[&str]) -> Result<Option<Command>, AllocError> {
+fn open(words: &[&str]) -> Option<Call> {
+    let plan = pipe_plan(words)?;
+    if words.len() != 7 {
+        return None;
+    }
+    Some(Call::Open(byte(words[1])?, plan))
+}
+
+fn send(heap: Global, words: &[&str]) -> Result<Option<Call>, AllocError> {
+    if words.len() != 3 {
+        return Ok(None);
+    }
+    let Some(pipe) = byte(words[1]) else {
+        return Ok(None);
+    };
+    match hexadecimal(heap, words[2])? {
+        Some(bytes) => Ok(Some(Call::Send(pipe, bytes))),
+        None => Ok(None),
+    }
+}
+
+fn recover(words: &[&str]) -> Option<Call> {
+    Some(Call::Recover(only_byte(words)?))
+}
+
+fn look(words: &[&str]) -> Option<Call> {
+    Some(Call::Look(only_byte(words)?))
+}
+
+fn close(words: &[&str]) -> Option<Call> {
+    Some(Call::Close(only_byte(words)?))
+}
+
+// A set-up line.
+fn step(heap: Global, words: &[&str]) -> Result<Option<Step>, AllocError> {
     if words.len() == 0 {
         return Ok(None);
     }
     match words[0] {
-        "new" => Ok(alone(words, Command::New)),
-        "show" => Ok(alone(words, Command::Show)),
-        "bus" => Ok(bus(words)),
+        "bus" => Ok(drive(words)),
         "cell" => Ok(cell(words)),
         "wait" => wait(heap, words),
         "fates" => fates(heap, words),
         "put" => Ok(put(words)),
         "get" => Ok(get(words)),
+        "frame" => frame(heap, words),
         _ => Ok(None),
     }
 }
 
-// A command of one word.
-fn alone(words: &[&str], command: Command) -> Option<Command> {
-    if words.len() == 1 { Some(command) } else { None }
+// A call of the host.
+fn call(heap: Global, words: &[&str]) -> Result<Option<Call>, AllocError> {
+    if words.len() == 0 {
+        return Ok(None);
+    }
+    match words[0] {
+        "open" => Ok(open(words)),
+        "send" => send(heap, words),
+        "recover" => Ok(recover(words)),
+        "look" => Ok(look(words)),
+        "close" => Ok(close(words)),
+        _ => Ok(None),
+    }
 }
 
-fn bus(words: &[&str]) -> Option<Command> {
-    if words.len() == 2 && words[1] == "direct" { Some(Command::BusDirect) } else { None }
+// A line of words, the first of which says what is asked for.
+fn command(heap: Global, words: &[&str]) -> Result<Option<Command>, AllocError> {
+    if let Some(step) = step(heap, words)? {
+        return Ok(Some(Command::Prepare(step)));
+    }
+    if let Some(call) = call(heap, words)? {
+        return Ok(Some(Command::Call(call)));
+    }
+    Ok(alone(words))
+}
+
+// A line of one word.
+fn alone(words: &[&str]) -> Option<Command> {
+    if words.len() != 1 {
+        return None;
+    }
+    match words[0] {
+        "new" => Some(Command::New),
+        "show" => Some(Command::Show),
+        _ => None,
+    }
 }
 
 // One line.

@@ -63,11 +63,13 @@ pub fn push_endpoint(heap: Global, out: &mut String, endpoint: &DeviceEndpoint) 
 }
 
 // Every endpoint in the order of set-up, and how many fates are left.
-pub fn push_chip(heap: Global, out: &mut String, chip: &BenchChip) -> Result<(), AllocError> {
+pub fn chip_text(heap: Global, chip: &BenchChip) -> Result<String, AllocError> {
+    let mut out = String::new(heap);
     for endpoint in chip.endpoints() {
-        push_endpoint(heap, out, endpoint)?;
+        push_endpoint(heap, &mut out, endpoint)?;
     }
     let left = chip.fates_left();
     let line = format!(heap, "fates {left}\n")?;
-    out.push_str(line.as_str())
+    out.push_str(line.as_str())?;
+    Ok(out)
 }
