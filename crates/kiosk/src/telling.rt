@@ -28,7 +28,7 @@ fn tell_second(rt: &LibcRuntime, day: Day) -> Result<(), AnyError> {
 fn tell_rest(rt: &LibcRuntime, day: Day) -> Result<(), AnyError> {
     println!(rt, "The cable is put right, and the pipe is recovered:")?;
     tell_cleared(rt, day.recovered)?;
-    println!(rt, "The slip again, from its first uncertain byte on. If the printer had those bytes, they are on the paper twice:")?;
+    println!(rt, "The slip again, from its first uncertain byte on. If the printer had those bytes, they are printed twice:")?;
     tell_sent(rt, day.rest)
 }
 
