@@ -1,4 +1,5 @@
 mod Carriages
+mod Freshness
 mod Fronts
 mod Offers
 mod Queued

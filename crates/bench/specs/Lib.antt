@@ -5,3 +5,4 @@ pub mod Views
 pub mod Devices
 pub mod Chips
 pub mod Setups
+pub mod Laws

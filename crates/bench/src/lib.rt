@@ -4,6 +4,7 @@ mod chips;
 mod devices;
 mod endpoints;
 mod inboxes;
+pub mod laws;
 mod packets;
 mod plans;
 mod queues;
