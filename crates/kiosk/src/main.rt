@@ -20,7 +20,8 @@ fn run(rt: &LibcRuntime) -> Result<(), AnyError> {
     println!(rt, "")?;
     stages::over_frames(rt, day)?;
     println!(rt, "")?;
-    stages::one_packet(rt)
+    stages::one_packet(rt)?;
+    stages::layered(rt)
 }
 
 fn main(rt: LibcRuntime) -> Result<(), AnyError> {

@@ -21,6 +21,7 @@ use frames::FramedPort;
 use frames::FramedPortPort;
 use frames::PortWire;
 use frames::PortWireWire;
+use frames::exchange_layered;
 use host::Answer;
 use host::Host;
 use port::Port;
@@ -124,4 +125,15 @@ pub fn one_packet(rt: &LibcRuntime) -> Result<(), AnyError> {
         tell_frame(rt, exchange)?;
     }
     tell_sent(rt, seen.answer)
+}
+
+// A wire made of a framed port over another wire is a wire again: the flags, got through both.
+pub fn layered(rt: &LibcRuntime) -> Result<(), AnyError> {
+    let mut bytes = [0xc8, 0x00];
+    let wire = exchange_layered(PortWire::half(bench_bus(rt)?), &mut bytes);
+    let _ = wire.into_port();
+    let status = bytes[0];
+    let flags = bytes[1];
+    println!(rt, "The flags of R25 through a wire over a port over a wire: out c8 00, in {status:02x} {flags:02x}")?;
+    Ok(())
 }
