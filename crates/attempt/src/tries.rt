@@ -79,7 +79,13 @@ fn transact<P: Port>(port: &mut P, value: u8) -> u8
 }
 
 // OUT: sends the packet to an endpoint, and answers with the result code and the send toggle after it.
-pub fn try_out<P: Port>(port: &mut P, address: u8, endpoint: u8, toggle: Toggle, packet: Packet) -> (u8, u8)
+pub fn try_out<P: Port>(
+    port: &mut P,
+    address: u8,
+    endpoint: u8,
+    toggle: Toggle,
+    packet: Packet,
+) -> (u8, u8)
     ensures answer { λ r. ⌜ r ≡ out-answer address endpoint toggle (now (packet .entry .bytes)) (meaning (now (port .entry))) ⌝ }
     ensures after { λ _. ⌜ meaning (now (port .exit)) ≡ after-out address endpoint toggle (now (packet .entry .bytes)) (meaning (now (port .entry))) ⌝ }
 {
@@ -137,7 +143,13 @@ fn read<P: Port>(port: &mut P, room: &mut [u8]) -> Arrival
 
 // IN: asks an endpoint for a packet of at most as many bytes as the room has, the packet size. Answers with the result code and
 // the receive toggle after it, and what came.
-pub fn try_in<P: Port>(port: &mut P, address: u8, endpoint: u8, toggle: Toggle, room: &mut [u8]) -> ((u8, u8), Arrival)
+pub fn try_in<P: Port>(
+    port: &mut P,
+    address: u8,
+    endpoint: u8,
+    toggle: Toggle,
+    room: &mut [u8],
+) -> ((u8, u8), Arrival)
     ensures answer { λ r. ⌜ r .0 ≡ in-answer address endpoint toggle (now (room .entry)) (meaning (now (port .entry))) ⌝ }
     ensures arrival { λ r. ⌜ r .1 ≡ in-arrival address endpoint toggle (now (room .entry)) (meaning (now (port .entry))) ⌝ }
     ensures bytes { λ _. ⌜ now (room .exit) ≡ in-room address endpoint toggle (now (room .entry)) (meaning (now (port .entry))) ⌝ }

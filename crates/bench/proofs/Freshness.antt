@@ -60,13 +60,13 @@ module _ (es : List Endpoint) (formed : Well-formed es) where
       let first = getD-append-left es (e ∷ []) nowhere i old in
       ⊎-elim
       (λ earlier.
-          let last = getD-append-left es (e ∷ []) nowhere j earlier in
-          (λ k. stands-at (first k .address) (first k .number) (first k .direction) (last k)) ∙ formed .distinct i j lt earlier)
+      let last = getD-append-left es (e ∷ []) nowhere j earlier in
+      (λ k. stands-at (first k .address) (first k .number) (first k .direction) (last k)) ∙ formed .distinct i j lt earlier)
       (λ le.
-          let last = getD-push es e nowhere j (let h : length es ≡ j = omega arith in h) in
-          (λ k. stands-at (first k .address) (first k .number) (first k .direction) (last k))
-          ∙ swap (getD es i nowhere) e
-          ∙ none-stands (e .address) (e .number) (e .direction) es i free old)
+      let last = getD-push es e nowhere j (let h : length es ≡ j = omega arith in h) in
+      (λ k. stands-at (first k .address) (first k .number) (first k .direction) (last k))
+      ∙ swap (getD es i nowhere) e
+      ∙ none-stands (e .address) (e .number) (e .direction) es i free old)
       (cases-lt j (length es))
 
   -- another state of one endpoint
@@ -75,9 +75,9 @@ module _ (es : List Endpoint) (formed : Well-formed es) where
     same-at i =
         ⊎-elim
         (λ same.
-            let here : getD (set es k e′) i nowhere ≡ e′ = ap (λ m. getD (set es k e′) m nowhere) same ∙ getD-set-same es k e′ nowhere lt in
-            let there : getD es k nowhere ≡ getD es i nowhere = ap (λ m. getD es m nowhere) (sym same) in
-            (ap (λ x. x .address) here ∙ a ∙ ap (λ x. x .address) there, ap (λ x. x .number) here ∙ n ∙ ap (λ x. x .number) there, ap (λ x. x .direction) here ∙ d ∙ ap (λ x. x .direction) there))
+        let here : getD (set es k e′) i nowhere ≡ e′ = ap (λ m. getD (set es k e′) m nowhere) same ∙ getD-set-same es k e′ nowhere lt in
+        let there : getD es k nowhere ≡ getD es i nowhere = ap (λ m. getD es m nowhere) (sym same) in
+        (ap (λ x. x .address) here ∙ a ∙ ap (λ x. x .address) there, ap (λ x. x .number) here ∙ n ∙ ap (λ x. x .number) there, ap (λ x. x .direction) here ∙ d ∙ ap (λ x. x .direction) there))
         (λ other. let e = getD-set-other es k i e′ nowhere other in (ap (λ x. x .address) e, ap (λ x. x .number) e, ap (λ x. x .direction) e))
         (cases-eq i k)
 

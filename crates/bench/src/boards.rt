@@ -26,7 +26,8 @@ impl Board {
         ensures { λ _. ⌜ Transacted Setup fate (now (self .entry)) (now (self .exit)) ⌝ }
     {
         self.chip.make_request();
-        let code = self.devices.setup(self.chip.address(), fate, self.chip.setup());
+        let code = self.devices
+            .setup(self.chip.address(), fate, self.chip.setup());
         self.chip.end_plain(code);
     }
 
@@ -36,7 +37,8 @@ impl Board {
     {
         let address = self.chip.address();
         let toggle = self.chip.receive_toggle();
-        let code = self.devices.input(address, number, fate, toggle, &mut self.chip.incoming);
+        let code = self.devices
+            .input(address, number, fate, toggle, &mut self.chip.incoming);
         self.chip.end_in(code);
     }
 
@@ -46,7 +48,13 @@ impl Board {
     {
         self.chip.make_packet();
         let toggle = self.chip.send_toggle();
-        let code = self.devices.out(self.chip.address(), number, fate, toggle, self.chip.sending());
+        let code = self.devices.out(
+            self.chip.address(),
+            number,
+            fate,
+            toggle,
+            self.chip.sending(),
+        );
         self.chip.end_out(code);
     }
 

@@ -44,8 +44,14 @@ impl BenchChip {
         ensures { λ r. ⌜ made r (λ b. bus-of b ≡ empty-bus) ⌝ }
     {
         let chip = ChipRecord::new(heap)?;
-        let board = Board { chip, devices: Devices::new(heap) };
-        Ok(BenchChip { board, fates: FateQueue::new(heap) })
+        let board = Board {
+            chip,
+            devices: Devices::new(heap),
+        };
+        Ok(BenchChip {
+            board,
+            fates: FateQueue::new(heap),
+        })
     }
 
     // One endpoint more on the bus.

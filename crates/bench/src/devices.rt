@@ -39,7 +39,11 @@ fn names_endpoint(ee: u8) -> bool
 fn named_direction(ee: u8) -> Direction
     ensures { λ r. ⌜ r ≡ named-direction ee ⌝ }
 {
-    if ee < 0x80 { Direction::Out } else { Direction::In }
+    if ee < 0x80 {
+        Direction::Out
+    } else {
+        Direction::In
+    }
 }
 
 // The endpoint byte of eight setup bytes that are the clear request.
@@ -58,7 +62,10 @@ impl Devices {
     pub(crate) fn new(heap: Global) -> Devices
         ensures { λ r. ⌜ devices-of r ≡ record { endpoints = []; heard = None } ⌝ }
     {
-        Devices { endpoints: Vec::new(heap), heard: None }
+        Devices {
+            endpoints: Vec::new(heap),
+            heard: None,
+        }
     }
 
     pub(crate) fn endpoints(&self) -> &[DeviceEndpoint]
@@ -92,7 +99,14 @@ impl Devices {
     }
 
     // OUT: 14 where there is no such endpoint.
-    pub(crate) fn out(&mut self, address: u8, number: u8, fate: Fate, toggle: Toggle, bytes: &[u8]) -> u8
+    pub(crate) fn out(
+        &mut self,
+        address: u8,
+        number: u8,
+        fate: Fate,
+        toggle: Toggle,
+        bytes: &[u8],
+    ) -> u8
         ensures code { λ r. ⌜ r ≡ out-outcome address fate (devices-of (now (self .entry))) number toggle (now (bytes .entry)) .code ⌝ }
         ensures after { λ _. ⌜ devices-of (now (self .exit)) ≡ out-outcome address fate (devices-of (now (self .entry))) number toggle (now (bytes .entry)) .devices ⌝ }
     {
@@ -104,7 +118,14 @@ impl Devices {
     }
 
     // IN: 14 where there is no such endpoint. With code 0 the receive buffer holds the packet.
-    pub(crate) fn input(&mut self, address: u8, number: u8, fate: Fate, toggle: Toggle, into: &mut Inbox) -> u8
+    pub(crate) fn input(
+        &mut self,
+        address: u8,
+        number: u8,
+        fate: Fate,
+        toggle: Toggle,
+        into: &mut Inbox,
+    ) -> u8
         requires { ⌜ Real fate ⌝ }
         ensures code { λ r. ⌜ r ≡ in-outcome address fate (devices-of (now (self .entry))) number toggle .code ⌝ }
         ensures after { λ _. ⌜ devices-of (now (self .exit)) ≡ in-outcome address fate (devices-of (now (self .entry))) number toggle .devices ⌝ }

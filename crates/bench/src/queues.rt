@@ -20,7 +20,9 @@ impl FateQueue {
     pub(crate) fn new(heap: Global) -> FateQueue
         ensures { λ r. ⌜ queue-bytes r ≡ [] ⌝ }
     {
-        FateQueue { bytes: VecDeque::new(heap) }
+        FateQueue {
+            bytes: VecDeque::new(heap),
+        }
     }
 
     pub(crate) fn len(&self) -> usize

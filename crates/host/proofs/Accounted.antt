@@ -81,28 +81,27 @@ sends-are-accounted-for places b number message p admitted step =
     let q = send-run p message b .progress in
     let held = run-held p message b step in
     let Accounted : Done → Type 0 =
-        (λ d.
-            (n : ℕ)
-            × ((n ≡ d .answer .sent) ⊎ (n ≡ d .answer .sent + d .answer .doubtful))
-            × (getD (d .bus .devices .endpoints) (spot p b) nowhere .taken ≡ device p b .taken ++ take n message)
-            × ((k : ℕ) → k ≢ spot p b → getD (d .bus .devices .endpoints) k nowhere ≡ getD (b .devices .endpoints) k nowhere)) in
+    (λ d.
+    (n : ℕ)
+    × ((n ≡ d .answer .sent) ⊎ (n ≡ d .answer .sent + d .answer .doubtful))
+    × (getD (d .bus .devices .endpoints) (spot p b) nowhere .taken ≡ device p b .taken ++ take n message)
+    × ((k : ℕ) → k ≢ spot p b → getD (d .bus .devices .endpoints) k nowhere ≡ getD (b .devices .endpoints) k nowhere)) in
     subst Accounted (sym (ap (send-by places b number message) admitted))
     (⊎-elim
     (λ first. (q .sent, inl refl, first .1, held .others))
-    (λ second.
-        (
-          q .sent + length (send-packet p message q),
-          ⊎-elim
+    (λ second. (
+      q .sent + length (send-packet p message q),
+      ⊎-elim
           (λ none.
-              let all = all-sent p message b (step .made) none in
-              let l = length-take (min (p .size) 64) (drop (q .sent) message) in
-              let d = length-drop (q .sent) message in
-              inl (omega arith))
+          let all = all-sent p message b (step .made) none in
+          let l = length-take (min (p .size) 64) (drop (q .sent) message) in
+          let d = length-drop (q .sent) message in
+          inl (omega arith))
           (λ stopped. inr (ap (λ n. q .sent + n) (sym (doubt-stopped p message q stopped (second .0)))))
           (cases-bool (none-yet (q .stop))),
-          second .2,
-          held .others,
-        ))
+      second .2,
+      held .others,
+    ))
     (held .at))
 
 -- 14 and 16 are other stops
@@ -121,26 +120,25 @@ busy-printers-stay-in-step places b number message p inside admitted step limit 
     let stopped : none-yet (q .stop) ≡ false = ap none-yet stop in
     let some = packet-some p message (step .made .size-above) (step .made .limit-above) q (run-short p message b stopped) in
     let clean : (getD (b′ .devices .endpoints) (spot p b) nowhere .toggle ≡ q .toggle) × (getD (b′ .devices .endpoints) (spot p b) nowhere .taken ≡ device p b .taken ++ take (q .sent) message) =
-        ⊎-elim (λ first. first) (λ second. let d = doubt-stopped p message q stopped (second .0) in absurd (omega arith)) (held .at) in
+    ⊎-elim (λ first. first) (λ second. let d = doubt-stopped p message q stopped (second .0) in absurd (omega arith)) (held .at) in
     let alive : getD (b′ .devices .endpoints) (spot p b) nowhere .halted ≡ false = ⊎-elim (λ x. x) (λ x. absurd (not-stalled (q .stop) stop x)) (held .live) in
     let same : spot p′ b′ ≡ spot p b = ap (λ a. place a (p .endpoint) directions.Out (b′ .devices .endpoints)) (sym (mod-address p message b step)) ∙ held .here in
-    let standing : p′ .standing ≡ p .standing = (λ j. next-standing (p .standing) (send-event (number-of (stop j)) (none j))) in
-    (
+    let standing : p′ .standing ≡ p .standing = (λ j. next-standing (p .standing) (send-event (number-of (stop j)) (none j))) in (
       p′,
       ap (λ d. getD (d .places) number None) e ∙ getD-set-same places number (Some p′) None inside,
       subst (In-step p′) (sym (ap (λ d. d .bus) e))
-      (record {
-        made = record {
-          address-most = step .made .address-most;
-          endpoint-above = step .made .endpoint-above;
-          endpoint-most = step .made .endpoint-most;
-          size-above = step .made .size-above;
-          limit-above = step .made .limit-above;
-        };
-        there = subst (λ n. n < length (b′ .devices .endpoints)) (sym same) (omega (arith, held .many, step .there));
-        live = ap (λ n. getD (b′ .devices .endpoints) n nowhere .halted) same ∙ alive;
-        agrees = ap (λ n. getD (b′ .devices .endpoints) n nowhere .toggle) same ∙ clean .0;
-        unsent = held .unsent;
-      }),
+          (record {
+            made = record {
+              address-most = step .made .address-most;
+              endpoint-above = step .made .endpoint-above;
+              endpoint-most = step .made .endpoint-most;
+              size-above = step .made .size-above;
+              limit-above = step .made .limit-above;
+            };
+            there = subst (λ n. n < length (b′ .devices .endpoints)) (sym same) (omega (arith, held .many, step .there));
+            live = ap (λ n. getD (b′ .devices .endpoints) n nowhere .halted) same ∙ alive;
+            agrees = ap (λ n. getD (b′ .devices .endpoints) n nowhere .toggle) same ∙ clean .0;
+            unsent = held .unsent;
+          }),
       standing,
     )

@@ -230,14 +230,14 @@ module _ (p : Pipe) (message : List ℕ) (start : List ℕ) where
           let devices = out-devices (p .address) (p .endpoint) (q .toggle) pk b low high (h .unsent) short ∙ ap (λ x. x .devices) o in
           let ends : send-step p message s .bus .devices .endpoints ≡ set es i (m .endpoint) = ap (λ d. d .endpoints) devices in
           let done : send-step p message s .progress ≡ next q (m .code) (advanced (m .code) (q .toggle)) =
-              (λ j. record {
-                sent = cond (succeeded (verdict (code j) (q .counts))) (q .sent + length pk) (q .sent);
-                counts = cond (succeeded (verdict (code j) (q .counts))) (fresh-counts (p .limit)) (counted (code j) (q .counts));
-                tries = q .tries + 1;
-                last = code j;
-                toggle = toggle j;
-                stop = stop-of (verdict (code j) (q .counts));
-              }) in
+          (λ j. record {
+            sent = cond (succeeded (verdict (code j) (q .counts))) (q .sent + length pk) (q .sent);
+            counts = cond (succeeded (verdict (code j) (q .counts))) (fresh-counts (p .limit)) (counted (code j) (q .counts));
+            tries = q .tries + 1;
+            last = code j;
+            toggle = toggle j;
+            stop = stop-of (verdict (code j) (q .counts));
+          }) in
           let after = after-reply q e alive (h .at) (reply (q .toggle) pk e alive fate (next-real (b .fates))) in
           let mine : getD (send-step p message s .bus .devices .endpoints) i nowhere ≡ m .endpoint = ap (λ l. getD l i nowhere) ends ∙ getD-set-same es i (m .endpoint) nowhere lt in
           record {

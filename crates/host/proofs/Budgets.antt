@@ -59,9 +59,9 @@ module _ (p : Pipe) (message : List ℕ) (size : 1 ≤ p .size) (limit : 1 ≤ p
       let code = code-of-step s in
       let c = s .progress .counts in
       elim (judge-cases (p .limit) code c (h .bounds)) [
-        won v n ↦ subst (λ x. Bounds (p .limit) (cond (succeeded x) (fresh-counts (p .limit)) (counted code c))) (sym v) fresh-bounds
-      | again v n k ↦ subst (λ x. Bounds (p .limit) (cond (succeeded x) (fresh-counts (p .limit)) (counted code c))) (sym v) k
-      | stops why v k ↦ subst (λ x. Bounds (p .limit) (cond (succeeded x) (fresh-counts (p .limit)) (counted code c))) (sym v) k
+        | won v n ↦ subst (λ x. Bounds (p .limit) (cond (succeeded x) (fresh-counts (p .limit)) (counted code c))) (sym v) fresh-bounds
+        | again v n k ↦ subst (λ x. Bounds (p .limit) (cond (succeeded x) (fresh-counts (p .limit)) (counted code c))) (sym v) k
+        | stops why v k ↦ subst (λ x. Bounds (p .limit) (cond (succeeded x) (fresh-counts (p .limit)) (counted code c))) (sym v) k
       ]
 
   pub step-kept : (s : Sending) → Kept s → send-going p message s ≡ true → Kept (send-step p message s)
@@ -97,7 +97,7 @@ module _ (p : Pipe) (message : List ℕ) (size : 1 ≤ p .size) (limit : 1 ≤ p
       let x : 1 ≤ length message - q .sent = omega arith in
       let y = at-least (length message - q .sent) (p .limit + 3) x in
       elim (judge-cases (p .limit) code c (h .bounds)) [
-        won v n ↦
+        | won v n ↦
             let sent : send-step p message s .progress .sent ≡ q .sent + length (send-packet p message q) = ap (λ z. cond (succeeded z) (q .sent + length (send-packet p message q)) (q .sent)) v in
             let counts : send-step p message s .progress .counts ≡ fresh-counts (p .limit) = ap (λ z. cond (succeeded z) (fresh-counts (p .limit)) (counted code c)) v in
             let m : send-step p message s .progress .counts .misses ≡ 3 = ap (λ z. z .misses) counts in
@@ -105,14 +105,14 @@ module _ (p : Pipe) (message : List ℕ) (size : 1 ≤ p .size) (limit : 1 ≤ p
             let some = packet-some q lt in
             let less = one-less (length message - q .sent) (length message - send-step p message s .progress .sent) (p .limit + 3) (omega arith) in
             omega (arith, h .bounds .some-misses)
-      | again v n k ↦
+        | again v n k ↦
             let sent : send-step p message s .progress .sent ≡ q .sent = ap (λ z. cond (succeeded z) (q .sent + length (send-packet p message q)) (q .sent)) v in
             let counts : send-step p message s .progress .counts ≡ counted code c = ap (λ z. cond (succeeded z) (fresh-counts (p .limit)) (counted code c)) v in
             let m : send-step p message s .progress .counts .misses ≡ counted code c .misses = ap (λ z. z .misses) counts in
             let d : send-step p message s .progress .counts .naks ≡ counted code c .naks = ap (λ z. z .naks) counts in
             let same : (length message - send-step p message s .progress .sent) * (p .limit + 3) ≡ (length message - q .sent) * (p .limit + 3) = ap (λ z. (length message - z) * (p .limit + 3)) sent in
             omega (arith, k .some-misses)
-      | stops why v k ↦
+        | stops why v k ↦
             let stop : send-step p message s .progress .stop ≡ Some why = ap stop-of v in
             let none : none-yet (send-step p message s .progress .stop) ≡ true = and-parts (none-yet (send-step p message s .progress .stop)) (ltb (send-step p message s .progress .sent) (length message)) g′ .0 in
             absurd (false≢true (sym (ap none-yet stop) ∙ none))

@@ -33,16 +33,16 @@ module _ (limit code : ℕ) (c : Counts) (h : Bounds limit c) where
       let n : counted code c ≡ record { misses = cond (leb (c .misses) 1) (c .misses) (c .misses - 1); naks = c .naks; missed = true } = rw (zero, five, four) refl in
       ⊎-elim
       (λ t.
-          let m : counted code c .misses ≡ c .misses = ap (λ x. x .misses) n ∙ ap (λ b. cond b (c .misses) (c .misses - 1)) t in
-          let k : counted code c .naks ≡ c .naks = ap (λ x. x .naks) n in
-          stops ThirdMiss (v ∙ ap (λ b. cond b (Stop ThirdMiss) Again) t)
-          (record { some-misses = omega (arith, h .some-misses); most-misses = omega (arith, h .most-misses); some-naks = omega (arith, h .some-naks); most-naks = omega (arith, h .most-naks) }))
+      let m : counted code c .misses ≡ c .misses = ap (λ x. x .misses) n ∙ ap (λ b. cond b (c .misses) (c .misses - 1)) t in
+      let k : counted code c .naks ≡ c .naks = ap (λ x. x .naks) n in
+      stops ThirdMiss (v ∙ ap (λ b. cond b (Stop ThirdMiss) Again) t)
+      (record { some-misses = omega (arith, h .some-misses); most-misses = omega (arith, h .most-misses); some-naks = omega (arith, h .some-naks); most-naks = omega (arith, h .most-naks) }))
       (λ f.
-          let more = leb-false (c .misses) 1 f in
-          let m : counted code c .misses ≡ c .misses - 1 = ap (λ x. x .misses) n ∙ ap (λ b. cond b (c .misses) (c .misses - 1)) f in
-          let k : counted code c .naks ≡ c .naks = ap (λ x. x .naks) n in
-          again (v ∙ ap (λ b. cond b (Stop ThirdMiss) Again) f) (omega arith)
-          (record { some-misses = omega arith; most-misses = omega (arith, h .most-misses); some-naks = omega (arith, h .some-naks); most-naks = omega (arith, h .most-naks) }))
+      let more = leb-false (c .misses) 1 f in
+      let m : counted code c .misses ≡ c .misses - 1 = ap (λ x. x .misses) n ∙ ap (λ b. cond b (c .misses) (c .misses - 1)) f in
+      let k : counted code c .naks ≡ c .naks = ap (λ x. x .naks) n in
+      again (v ∙ ap (λ b. cond b (Stop ThirdMiss) Again) f) (omega arith)
+      (record { some-misses = omega arith; most-misses = omega (arith, h .most-misses); some-naks = omega (arith, h .some-naks); most-naks = omega (arith, h .most-naks) }))
       (cases-bool (leb (c .misses) 1))
 
   on-nak : (zero : eqb code 0 ≡ false) (five : eqb code 5 ≡ false) (four : eqb code 4 ≡ true) → Case limit code c
@@ -52,12 +52,12 @@ module _ (limit code : ℕ) (c : Counts) (h : Bounds limit c) where
       ⊎-elim
       (λ t. stops NakLimit (v ∙ ap (λ b. cond b (Stop NakLimit) Again) t) (subst (Bounds limit) (sym (n ∙ ap (λ b. cond b c (with-nak c)) t)) h))
       (λ f.
-          let more = leb-false (c .naks) 1 f in
-          let e = n ∙ ap (λ b. cond b c (with-nak c)) f in
-          let m : counted code c .misses ≡ c .misses = ap (λ x. x .misses) e in
-          let k : counted code c .naks ≡ c .naks - 1 = ap (λ x. x .naks) e in
-          again (v ∙ ap (λ b. cond b (Stop NakLimit) Again) f) (omega arith)
-          (record { some-misses = omega (arith, h .some-misses); most-misses = omega (arith, h .most-misses); some-naks = omega arith; most-naks = omega (arith, h .most-naks) }))
+      let more = leb-false (c .naks) 1 f in
+      let e = n ∙ ap (λ b. cond b c (with-nak c)) f in
+      let m : counted code c .misses ≡ c .misses = ap (λ x. x .misses) e in
+      let k : counted code c .naks ≡ c .naks - 1 = ap (λ x. x .naks) e in
+      again (v ∙ ap (λ b. cond b (Stop NakLimit) Again) f) (omega arith)
+      (record { some-misses = omega (arith, h .some-misses); most-misses = omega (arith, h .most-misses); some-naks = omega arith; most-naks = omega (arith, h .most-naks) }))
       (cases-bool (leb (c .naks) 1))
 
   pub judge-cases : Case limit code c
@@ -65,10 +65,10 @@ module _ (limit code : ℕ) (c : Counts) (h : Bounds limit c) where
       ⊎-elim
       (λ (zero : eqb code 0 ≡ true). won (rw zero refl) (rw zero refl))
       (λ (zero : eqb code 0 ≡ false).
-          ⊎-elim
-          (λ (five : eqb code 5 ≡ true). stops Stalled (rw (zero, five) refl) (subst (Bounds limit) (let e : c ≡ counted code c = rw (zero, five) refl in e) h))
-          (λ (five : eqb code 5 ≡ false). ⊎-elim (on-nak zero five) (on-miss zero five) (cases-bool (eqb code 4)))
-          (cases-bool (eqb code 5)))
+      ⊎-elim
+      (λ (five : eqb code 5 ≡ true). stops Stalled (rw (zero, five) refl) (subst (Bounds limit) (let e : c ≡ counted code c = rw (zero, five) refl in e) h))
+      (λ (five : eqb code 5 ≡ false). ⊎-elim (on-nak zero five) (on-miss zero five) (cases-bool (eqb code 4)))
+      (cases-bool (eqb code 5)))
       (cases-bool (eqb code 0))
 
 -- a code of 7 and more is a miss, which is remembered

@@ -48,7 +48,7 @@ loads (x ∷ xs) b h =
     let more = with-chip b (with-bytes (b .chip) (sending ++ x ∷ [])) in
     let room : length sending < 64 = omega arith in
     let one : after-put 2 x b ≡ more =
-        put-2 x b ∙ ap (λ t. with-chip b (with-bytes (b .chip) (cond t (sending ++ x ∷ []) sending))) (lt-ltb (length sending) 64 room) in
+    put-2 x b ∙ ap (λ t. with-chip b (with-bytes (b .chip) (cond t (sending ++ x ∷ []) sending))) (lt-ltb (length sending) 64 room) in
     let n = length-push sending x in
     ap (after-puts 2 xs) one
     ∙ loads xs more (omega arith)
@@ -98,9 +98,9 @@ loaded-out a t bytes b none h =
     let aim = with-chip b (aimed (b .chip) a t) in
     let full = with-chip b (with-bytes (aimed (b .chip) a t) bytes) in
     let load : after-puts 2 bytes (begun a (Some (send-control t)) b) ≡ full =
-        ap (after-puts 2 bytes) (begun-is a t b)
-        ∙ loads bytes aim (omega arith)
-        ∙ ap (λ l. with-chip b (with-bytes (aimed (b .chip) a t) (l ++ bytes))) none in
+    ap (after-puts 2 bytes) (begun-is a t b)
+    ∙ loads bytes aim (omega arith)
+    ∙ ap (λ l. with-chip b (with-bytes (aimed (b .chip) a t) (l ++ bytes))) none in
     ap (after-put 7 (length bytes)) load
     ∙ put-7 (length bytes) full
     ∙ ap (λ x. with-chip b (cond x (ready (b .chip) a t bytes) (with-bytes (aimed (b .chip) a t) bytes))) (le-leb (length bytes) 64 h)

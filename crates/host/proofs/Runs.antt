@@ -50,7 +50,7 @@ module _ {S : Type 0} (going : S → Bool) (step : S → S) where
   run-ends P μ keep some falls (suc n) s h within =
       ⊎-elim
       (λ g.
-          subst (λ x. going x ≡ false) (sym (run-step n s g))
-          (run-ends P μ keep some falls n (step s) (keep s h g) (λ g′. let a = falls s h g g′ in let b = within g in omega arith)))
+      subst (λ x. going x ≡ false) (sym (run-step n s g))
+      (run-ends P μ keep some falls n (step s) (keep s h g) (λ g′. let a = falls s h g g′ in let b = within g in omega arith)))
       (λ f. subst (λ x. going x ≡ false) (sym (run-still (suc n) s f)) f)
       (cases-bool (going s))

@@ -40,6 +40,6 @@ step-sent p message q b h =
 pub stopped-doubt : (p : Pipe) (message : List ℕ) (q : Progress) (n : ℕ) → true ≡ isSome (q .stop) → q .counts .missed ≡ true → n ≡ length (send-packet p message q) → n ≡ doubt p message q
 stopped-doubt p message q n stopped missed is = is ∙ of (q .stop) stopped
   where
-  of : (o : Option Refusal) → true ≡ isSome o → length (send-packet p message q) ≡ cond (none-yet o) 0 (cond (q .counts .missed) (length (send-packet p message q)) 0)
-  of None h = let z : _≡_ {A = ℕ} 0 1 = cc in absurd (omega arith)
-  of (Some r) h = sym (ap (λ b. cond b (length (send-packet p message q)) 0) missed)
+    of : (o : Option Refusal) → true ≡ isSome o → length (send-packet p message q) ≡ cond (none-yet o) 0 (cond (q .counts .missed) (length (send-packet p message q)) 0)
+    of None h = let z : _≡_ {A = ℕ} 0 1 = cc in absurd (omega arith)
+    of (Some r) h = sym (ap (λ b. cond b (length (send-packet p message q)) 0) missed)

@@ -17,7 +17,15 @@ fn good_size(size: u8) -> bool
 }
 
 // Why an open declines, if it does.
-pub(crate) fn open_refusal(table: &Table, number: u8, address: u8, endpoint: u8, direction: Direction, size: u8, limit: u8) -> Option<Refusal>
+pub(crate) fn open_refusal(
+    table: &Table,
+    number: u8,
+    address: u8,
+    endpoint: u8,
+    direction: Direction,
+    size: u8,
+    limit: u8,
+) -> Option<Refusal>
     ensures { λ r. ⌜ r ≡ open-refusal (now (table .entry) .pipes) number address endpoint direction size limit ⌝ }
 {
     if number > 7 {

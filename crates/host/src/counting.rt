@@ -52,7 +52,11 @@ impl Counts {
     pub(crate) fn new(limit: u8) -> Counts
         ensures { λ r. ⌜ r ≡ fresh-counts limit ⌝ }
     {
-        Counts { misses: MISSES, naks: limit, missed: false }
+        Counts {
+            misses: MISSES,
+            naks: limit,
+            missed: false,
+        }
     }
 
     // Counts one result code: 0 succeeds, 4 is a NAK, 5 stops, and every other code is a miss.

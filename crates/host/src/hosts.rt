@@ -51,7 +51,10 @@ impl<P: Port> Host<P> {
         ensures port { λ r. ⌜ r .port ≡ port ⌝ }
         ensures table { λ r. ⌜ r .table .pipes ≡ replicate 8 None ⌝ }
     {
-        Host { port, table: Table::new() }
+        Host {
+            port,
+            table: Table::new(),
+        }
     }
 
     // The port, to look at.
@@ -70,18 +73,42 @@ impl<P: Port> Host<P> {
     }
 
     // Opens a pipe to a device endpoint: clears the endpoint, and puts the pipe into its place.
-    pub fn open(&mut self, number: u8, address: u8, endpoint: u8, direction: Direction, size: u8, limit: u8) -> Answer
+    pub fn open(
+        &mut self,
+        number: u8,
+        address: u8,
+        endpoint: u8,
+        direction: Direction,
+        size: u8,
+        limit: u8,
+    ) -> Answer
         ensures answer { λ r. ⌜ r ≡ open-done (now (self .entry) .table .pipes) (meaning (now (self .entry) .port)) number address endpoint direction size limit .answer ⌝ }
         ensures table { λ _. ⌜ now (self .exit) .table .pipes ≡ open-done (now (self .entry) .table .pipes) (meaning (now (self .entry) .port)) number address endpoint direction size limit .places ⌝ }
         ensures after { λ _. ⌜ meaning (now (self .exit) .port) ≡ open-done (now (self .entry) .table .pipes) (meaning (now (self .entry) .port)) number address endpoint direction size limit .bus ⌝ }
         ensures same { λ _. ⌜ ((why : Why) → open-refusal (now (self .entry) .table .pipes) number address endpoint direction size limit ≡ Some why → now (self .exit) ≡ now (self .entry)) ⌝ }
     {
-        if let Some(refusal) = open_refusal(&self.table, number, address, endpoint, direction, size, limit) {
+        if let Some(refusal) = open_refusal(
+            &self.table,
+            number,
+            address,
+            endpoint,
+            direction,
+            size,
+            limit,
+        ) {
             return decline(refusal);
         }
         let clearing = opening::clear(&mut self.port, address, endpoint, direction, limit);
         if clearing.stop.is_none() {
-            let pipe = Pipe { address, endpoint, direction, size, limit, toggle: Toggle::Data0, standing: Standing::InStep };
+            let pipe = Pipe {
+                address,
+                endpoint,
+                direction,
+                size,
+                limit,
+                toggle: Toggle::Data0,
+                standing: Standing::InStep,
+            };
             self.table.store(number, Some(pipe));
         }
         opening::answer(clearing)
@@ -118,8 +145,16 @@ impl<P: Port> Host<P> {
         ensures { λ r. ⌜ r ≡ look-answer (now (self .entry) .table .pipes) number ⌝ }
     {
         match present(&self.table, number) {
-            Ok(pipe) => Looked { refusal: None, standing: Some(pipe.standing), toggle: pipe.toggle.number() },
-            Err(refusal) => Looked { refusal: Some(refusal), standing: None, toggle: 0 },
+            Ok(pipe) => Looked {
+                refusal: None,
+                standing: Some(pipe.standing),
+                toggle: pipe.toggle.number(),
+            },
+            Err(refusal) => Looked {
+                refusal: Some(refusal),
+                standing: None,
+                toggle: 0,
+            },
         }
     }
 
@@ -133,7 +168,13 @@ impl<P: Port> Host<P> {
         match present(&self.table, number) {
             Ok(_) => {
                 self.table.store(number, None);
-                Answer { refusal: None, sent: 0, doubtful: 0, tries: 0, last: 0 }
+                Answer {
+                    refusal: None,
+                    sent: 0,
+                    doubtful: 0,
+                    tries: 0,
+                    last: 0,
+                }
             }
             Err(refusal) => decline(refusal),
         }
@@ -161,7 +202,13 @@ impl<P: Port> Host<P> {
         ensures table { λ _. ⌜ now (self .exit) .table .pipes ≡ recover-end (now (self .entry) .table .pipes) (meaning (now (self .entry) .port)) number pipe (clear-run (pipe .address) (pipe .endpoint) (pipe .direction) (pipe .limit) (meaning (now (self .entry) .port))) .places ⌝ }
         ensures after { λ _. ⌜ meaning (now (self .exit) .port) ≡ recover-end (now (self .entry) .table .pipes) (meaning (now (self .entry) .port)) number pipe (clear-run (pipe .address) (pipe .endpoint) (pipe .direction) (pipe .limit) (meaning (now (self .entry) .port))) .bus ⌝ }
     {
-        let clearing = opening::clear(&mut self.port, pipe.address, pipe.endpoint, pipe.direction, pipe.limit);
+        let clearing = opening::clear(
+            &mut self.port,
+            pipe.address,
+            pipe.endpoint,
+            pipe.direction,
+            pipe.limit,
+        );
         let mut after = pipe;
         if clearing.stop.is_none() {
             after.toggle = Toggle::Data0;

@@ -5,35 +5,29 @@ ghost use Rattle.host.specs.Laws.{Sends-are-accounted-for, Answers-stay-within
 // and the doubtful ones, the first of the message, and every other endpoint as it was.
 pub fn a_send_accounts_for_every_byte()
     ensures { λ _. ⌜ Sends-are-accounted-for ⌝ }
-{
-}
+{}
 
 // The bytes sent and those doubtful never pass the message.
 pub fn sent_and_doubtful_stay_within_the_message()
     ensures { λ _. ⌜ Answers-stay-within-the-message ⌝ }
-{
-}
+{}
 
 // A send that answers 0 has sent the whole message.
 pub fn success_means_all_is_sent()
     ensures { λ _. ⌜ Success-sends-all ⌝ }
-{
-}
+{}
 
 // A send that stops at the NAK limit with nothing doubtful leaves its pipe in step with its device.
 pub fn a_busy_printer_stays_in_step()
     ensures { λ _. ⌜ Busy-printers-stay-in-step ⌝ }
-{
-}
+{}
 
 // A call that declines changes nothing.
 pub fn a_declined_call_changes_nothing()
     ensures { λ _. ⌜ Declined-calls-change-nothing ⌝ }
-{
-}
+{}
 
 // The tries that an answer tells are the launches that the call made.
 pub fn tries_are_the_launches_made()
     ensures { λ _. ⌜ Tries-are-launches ⌝ }
-{
-}
+{}

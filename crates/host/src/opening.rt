@@ -67,14 +67,29 @@ fn endpoint_byte(endpoint: u8, direction: Direction) -> u8
 fn clear_request(endpoint: u8, direction: Direction) -> [u8; SETUP_LENGTH]
     ensures { λ r. ⌜ r ≡ clear-request endpoint direction ⌝ }
 {
-    [0x02, 0x01, 0, 0, endpoint_byte(endpoint, direction), 0, 0, 0]
+    [
+        0x02,
+        0x01,
+        0,
+        0,
+        endpoint_byte(endpoint, direction),
+        0,
+        0,
+        0,
+    ]
 }
 
 impl Clearing {
     fn new(limit: u8) -> Clearing
         ensures { λ r. ⌜ r ≡ clear-start limit ⌝ }
     {
-        Clearing { stage: Stage::Setup, counts: Counts::new(limit), tries: 0, last: 0, stop: None }
+        Clearing {
+            stage: Stage::Setup,
+            counts: Counts::new(limit),
+            tries: 0,
+            last: 0,
+            stop: None,
+        }
     }
 
     // Whether a stage is left and nothing has stopped it.
@@ -100,7 +115,14 @@ impl Clearing {
     }
 
     // One try of the present stage.
-    fn step<P: Port>(&mut self, port: &mut P, address: u8, endpoint: u8, direction: Direction, limit: u8)
+    fn step<P: Port>(
+        &mut self,
+        port: &mut P,
+        address: u8,
+        endpoint: u8,
+        direction: Direction,
+        limit: u8,
+    )
         requires { ⌜ now self .tries + 1 < 2 ^ 32 ⌝ }
         ensures clearing { λ _. ⌜ now (self .exit) ≡ clear-step address endpoint direction limit (requesting (now (self .entry)) (meaning (now (port .entry)))) .clearing ⌝ }
         ensures after { λ _. ⌜ meaning (now (port .exit)) ≡ clear-step address endpoint direction limit (requesting (now (self .entry)) (meaning (now (port .entry)))) .bus ⌝ }
@@ -115,7 +137,13 @@ impl Clearing {
 }
 
 // Makes the request, as far as it goes.
-pub(crate) fn clear<P: Port>(port: &mut P, address: u8, endpoint: u8, direction: Direction, limit: u8) -> Clearing
+pub(crate) fn clear<P: Port>(
+    port: &mut P,
+    address: u8,
+    endpoint: u8,
+    direction: Direction,
+    limit: u8,
+) -> Clearing
     ensures clearing { λ r. ⌜ r ≡ clear-run address endpoint direction limit (meaning (now (port .entry))) .clearing ⌝ }
     ensures after { λ _. ⌜ meaning (now (port .exit)) ≡ clear-run address endpoint direction limit (meaning (now (port .entry))) .bus ⌝ }
 {

@@ -35,7 +35,14 @@ impl Progress {
     fn new(pipe: Pipe) -> Progress
         ensures { λ r. ⌜ r ≡ send-start pipe ⌝ }
     {
-        Progress { sent: 0, counts: Counts::new(pipe.limit), tries: 0, last: 0, toggle: pipe.toggle, stop: None }
+        Progress {
+            sent: 0,
+            counts: Counts::new(pipe.limit),
+            tries: 0,
+            last: 0,
+            toggle: pipe.toggle,
+            stop: None,
+        }
     }
 
     // Whether there is more to send and nothing has stopped it.
@@ -100,7 +107,11 @@ pub(crate) fn answer(progress: Progress, pipe: Pipe, message: &[u8]) -> Answer
     ensures { λ r. ⌜ r ≡ send-answer pipe (now (message .entry)) progress ⌝ }
 {
     let packet = Packet::cut(&message[progress.sent..message.len()], pipe.size as usize);
-    let doubtful = if progress.stop.is_some() && progress.counts.missed { packet.bytes().len() } else { 0 };
+    let doubtful = if progress.stop.is_some() && progress.counts.missed {
+        packet.bytes().len()
+    } else {
+        0
+    };
     Answer {
         refusal: progress.stop,
         sent: progress.sent,

@@ -34,8 +34,17 @@ fn tell_body(rt: &LibcRuntime, register: u8, sent: &[u8], answered: &[u8]) -> Re
 }
 
 // The command byte of one frame.
-fn tell_command(rt: &LibcRuntime, way: &str, register: u8, out: u8, back: u8) -> Result<(), AnyError> {
-    println!(rt, "  out {out:02x} in {back:02x}  command: {way} R{register}")?;
+fn tell_command(
+    rt: &LibcRuntime,
+    way: &str,
+    register: u8,
+    out: u8,
+    back: u8,
+) -> Result<(), AnyError> {
+    println!(
+        rt,
+        "  out {out:02x} in {back:02x}  command: {way} R{register}"
+    )?;
     Ok(())
 }
 
@@ -52,5 +61,10 @@ pub fn tell_frame(rt: &LibcRuntime, exchange: &Exchange) -> Result<(), AnyError>
         None => return Ok(()),
     };
     tell_command(rt, way, register, sent[0], answered[0])?;
-    tell_body(rt, register, &sent[1..sent.len()], &answered[1..answered.len()])
+    tell_body(
+        rt,
+        register,
+        &sent[1..sent.len()],
+        &answered[1..answered.len()],
+    )
 }

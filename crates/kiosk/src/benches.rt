@@ -8,6 +8,7 @@ use port::Direction;
 use std::error::AnyError;
 
 pub const PAD: u8 = 9;
+
 pub const PAD_IN: u8 = 1;
 
 const LABEL: &[u8; 14] = b"THE CITY ATLAS";
@@ -15,7 +16,24 @@ const LABEL: &[u8; 14] = b"THE CITY ATLAS";
 // What becomes of each transaction. The label comes in one, and the printer's pipe is opened in two. Of the first slip's packets the
 // second is taken but its acknowledgement is lost, so that it goes again. Of the second slip's packets the second is taken
 // unheard, and then lost twice. The pipe is recovered in two, and the rest of that slip goes in two.
-const FATES: [u8; 16] = [0x00, 0x00, 0x00, 0x00, 0x2e, 0x00, 0x00, 0x00, 0x00, 0x2e, 0x1e, 0x1e, 0x00, 0x00, 0x00, 0x00];
+const FATES: [u8; 16] = [
+    0x00,
+    0x00,
+    0x00,
+    0x00,
+    0x2e,
+    0x00,
+    0x00,
+    0x00,
+    0x00,
+    0x2e,
+    0x1e,
+    0x1e,
+    0x00,
+    0x00,
+    0x00,
+    0x00,
+];
 
 // A bus with a slip printer and a tag pad on which the atlas lies.
 pub fn bench_bus(rt: &LibcRuntime) -> Result<BenchChip, AnyError> {

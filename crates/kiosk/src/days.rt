@@ -5,11 +5,14 @@ use port::Direction;
 use port::Port;
 
 pub const PRINTER: u8 = 5;
+
 pub const PRINTER_OUT: u8 = 2;
 
 // the printer's pipe, its packet size, and how many NAKs of one packet stop a call
 const PIPE: u8 = 0;
+
 const SIZE: u8 = 16;
+
 const LIMIT: u8 = 3;
 
 // The answers, in the order of the calls.
@@ -52,5 +55,12 @@ pub fn live<P: Port>(host: &mut Host<P>, first_slip: &[u8], second_slip: &[u8]) 
     let early = print(host, second_slip);
     let recovered = host.recover(PIPE);
     let rest = print(host, unsent(second_slip, second));
-    Day { opened, first, second, early, recovered, rest }
+    Day {
+        opened,
+        first,
+        second,
+        early,
+        recovered,
+        rest,
+    }
 }

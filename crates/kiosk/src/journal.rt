@@ -72,6 +72,9 @@ pub fn tell_sent(rt: &LibcRuntime, answer: Answer) -> Result<(), AnyError> {
     let sent = answer.sent;
     let doubtful = answer.doubtful;
     let tries = answer.tries;
-    println!(rt, "  answer {number} (tries {tries}): {reason}; {sent} bytes sent, {doubtful} uncertain")?;
+    println!(
+        rt,
+        "  answer {number} (tries {tries}): {reason}; {sent} bytes sent, {doubtful} uncertain"
+    )?;
     Ok(())
 }

@@ -14,7 +14,10 @@ use days::PRINTER;
 use std::error::AnyError;
 
 fn run(rt: &LibcRuntime) -> Result<(), AnyError> {
-    println!(rt, "A lending kiosk on a bench chip: printer at address {PRINTER}, tag pad at address {PAD}.")?;
+    println!(
+        rt,
+        "A lending kiosk on a bench chip: printer at address {PRINTER}, tag pad at address {PAD}."
+    )?;
     println!(rt, "")?;
     let day = stages::over_the_chip(rt)?;
     println!(rt, "")?;

@@ -17,7 +17,10 @@ pub fn show_paper(rt: &LibcRuntime, chip: &BenchChip, slips: usize) -> Result<()
 fn show_taken(rt: &LibcRuntime, taken: &[u8], slips: usize) -> Result<(), AnyError> {
     let bytes = taken.len();
     let more = bytes.saturating_sub(slips);
-    println!(rt, "The printer has taken {bytes} bytes, {more} more than both slips have. Its paper reads:")?;
+    println!(
+        rt,
+        "The printer has taken {bytes} bytes, {more} more than both slips have. Its paper reads:"
+    )?;
     let paper = std::str::from_utf8(taken)?;
     for line in paper.lines() {
         println!(rt, "  | {line}")?;

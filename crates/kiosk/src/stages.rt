@@ -30,9 +30,11 @@ use std::alloc::Global;
 use std::error::AnyError;
 
 const FIRST_SLIP: &[u8; 54] = b"THE CITY ATLAS\nlent to reader 1187\nback by 8 December\n";
+
 const SECOND_SLIP: &[u8; 48] = b"A MAP OF RIVERS\nfor reader 2048\nback by 15 Dec.\n";
 // the bytes of both
 const SLIPS: usize = FIRST_SLIP.len() + SECOND_SLIP.len();
+
 const NOTE: &[u8; 3] = b"OK\n";
 // the most bytes of a label
 const LABEL_MOST: usize = 16;
@@ -48,8 +50,15 @@ fn tell_label(rt: &LibcRuntime, chip: &mut BenchChip) -> Result<(), AnyError> {
     let mut room = [0u8; LABEL_MOST];
     let fate = chip.next_fate();
     let (code, arrival) = read_label(chip, &mut room);
-    let tried = Tried { what: "IN from the pad", fate, code };
-    println!(rt, "An atlas drops into the returns slot. The tag pad reads its label:")?;
+    let tried = Tried {
+        what: "IN from the pad",
+        fate,
+        code,
+    };
+    println!(
+        rt,
+        "An atlas drops into the returns slot. The tag pad reads its label:"
+    )?;
     println!(rt, "{tried}")?;
     match arrival {
         Arrival::Read(length) if length <= LABEL_MOST => {
@@ -92,7 +101,10 @@ fn spend_framed(chip: BenchChip) -> (BenchChip, Day) {
 // The same story over a framed port, on a bus with the same faults.
 pub fn over_frames(rt: &LibcRuntime, before: Day) -> Result<(), AnyError> {
     let (chip, day) = spend_framed(bench_bus(rt)?);
-    println!(rt, "The same day over a framed port, where each register access is a frame on a half duplex wire:")?;
+    println!(
+        rt,
+        "The same day over a framed port, where each register access is a frame on a half duplex wire:"
+    )?;
     telling::tell_again(rt, day, before)?;
     show_paper(rt, &chip, SLIPS)
 }
@@ -113,14 +125,24 @@ fn listen(heap: Global, chip: BenchChip) -> Seen {
     let answer = days::print(&mut host, NOTE);
     let (wire, frames) = host.into_port().into_wire().into_parts();
     let _ = wire.into_port();
-    Seen { frames, before, answer }
+    Seen {
+        frames,
+        before,
+        answer,
+    }
 }
 
 // The frames of one packet.
 pub fn one_packet(rt: &LibcRuntime) -> Result<(), AnyError> {
     let seen = listen(rt.alloc(), bench_bus(rt)?);
-    println!(rt, "The frames of one packet, \"OK\" and a line feed, on a full duplex wire. While a command byte goes out,")?;
-    println!(rt, "the flags of R25 come in: 80 the last launch is done, 08 the send buffer is free, 04 a packet was received.")?;
+    println!(
+        rt,
+        "The frames of one packet, \"OK\" and a line feed, on a full duplex wire. While a command byte goes out,"
+    )?;
+    println!(
+        rt,
+        "the flags of R25 come in: 80 the last launch is done, 08 the send buffer is free, 04 a packet was received."
+    )?;
     for exchange in seen.frames.iter().skip(seen.before) {
         tell_frame(rt, exchange)?;
     }
@@ -134,6 +156,9 @@ pub fn layered(rt: &LibcRuntime) -> Result<(), AnyError> {
     let _ = wire.into_port();
     let status = bytes[0];
     let flags = bytes[1];
-    println!(rt, "The flags of R25 through a wire over a port over a wire: out c8 00, in {status:02x} {flags:02x}")?;
+    println!(
+        rt,
+        "The flags of R25 through a wire over a port over a wire: out c8 00, in {status:02x} {flags:02x}"
+    )?;
     Ok(())
 }

@@ -34,7 +34,11 @@ fn keep(heap: Global, seen: &mut Vec<Exchange>, sent: Result<Vec<u8>, AllocError
 
 impl<W: Wire> Tap<W> {
     pub fn new(heap: Global, wire: W) -> Tap<W> {
-        Tap { wire, heap, seen: Vec::new(heap) }
+        Tap {
+            wire,
+            heap,
+            seen: Vec::new(heap),
+        }
     }
 
     // How many frames went over the wire.
@@ -44,7 +48,11 @@ impl<W: Wire> Tap<W> {
 
     // The wire, and what went over it, frame by frame.
     pub fn into_parts(self) -> (W, Vec<Exchange>) {
-        let Tap { wire, heap: _, seen } = self;
+        let Tap {
+            wire,
+            heap: _,
+            seen,
+        } = self;
         (wire, seen)
     }
 }

@@ -7,9 +7,15 @@ use std::error::AnyError;
 
 // The first slip.
 fn tell_first(rt: &LibcRuntime, day: Day) -> Result<(), AnyError> {
-    println!(rt, "The printer's pipe is opened, so that both sides start at DATA0:")?;
+    println!(
+        rt,
+        "The printer's pipe is opened, so that both sides start at DATA0:"
+    )?;
     tell_cleared(rt, day.opened)?;
-    println!(rt, "The slip goes out in packets of 16 bytes. One acknowledgement is lost: that packet goes again, and is taken once.")?;
+    println!(
+        rt,
+        "The slip goes out in packets of 16 bytes. One acknowledgement is lost: that packet goes again, and is taken once."
+    )?;
     tell_sent(rt, day.first)
 }
 
@@ -19,8 +25,14 @@ fn tell_second(rt: &LibcRuntime, day: Day) -> Result<(), AnyError> {
     tell_sent(rt, day.second)?;
     let sent = day.second.sent;
     let doubtful = day.second.doubtful;
-    println!(rt, "  So {sent} bytes are printed for certain. The next {doubtful} may be printed or not: no answer was heard.")?;
-    println!(rt, "The host sends nothing more over that pipe until it is recovered:")?;
+    println!(
+        rt,
+        "  So {sent} bytes are printed for certain. The next {doubtful} may be printed or not: no answer was heard."
+    )?;
+    println!(
+        rt,
+        "The host sends nothing more over that pipe until it is recovered:"
+    )?;
     tell_sent(rt, day.early)
 }
 
@@ -28,7 +40,10 @@ fn tell_second(rt: &LibcRuntime, day: Day) -> Result<(), AnyError> {
 fn tell_rest(rt: &LibcRuntime, day: Day) -> Result<(), AnyError> {
     println!(rt, "The cable is put right, and the pipe is recovered:")?;
     tell_cleared(rt, day.recovered)?;
-    println!(rt, "The slip again, from its first uncertain byte on. If the printer had those bytes, they are printed twice:")?;
+    println!(
+        rt,
+        "The slip again, from its first uncertain byte on. If the printer had those bytes, they are printed twice:"
+    )?;
     tell_sent(rt, day.rest)
 }
 
@@ -39,7 +54,11 @@ pub fn tell(rt: &LibcRuntime, day: Day) -> Result<(), AnyError> {
 }
 
 fn alike(a: Answer, b: Answer) -> bool {
-    a.number() == b.number() && a.sent == b.sent && a.doubtful == b.doubtful && a.tries == b.tries && a.last == b.last
+    a.number() == b.number()
+        && a.sent == b.sent
+        && a.doubtful == b.doubtful
+        && a.tries == b.tries
+        && a.last == b.last
 }
 
 // One call, beside the same call over the chip itself.
@@ -48,8 +67,15 @@ fn compare(rt: &LibcRuntime, call: &str, answer: Answer, before: Answer) -> Resu
     let sent = answer.sent;
     let doubtful = answer.doubtful;
     let tries = answer.tries;
-    let same = if alike(answer, before) { "as before" } else { "NOT as before" };
-    println!(rt, "  {call}: answer {number}, {sent} sent, {doubtful} uncertain, tries {tries}; {same}")?;
+    let same = if alike(answer, before) {
+        "as before"
+    } else {
+        "NOT as before"
+    };
+    println!(
+        rt,
+        "  {call}: answer {number}, {sent} sent, {doubtful} uncertain, tries {tries}; {same}"
+    )?;
     Ok(())
 }
 

@@ -9,7 +9,6 @@ use lib.Dec.{eqb, ltb}
 use lib.ListN.{length, getD, set}
 use Rattle.std.proofs.shelf.Lists.{getD-set-same, getD-set-other, set-past}
 use Rattle.std.proofs.shelf.Tests.{cond-both, cases-lt, cases-eq}
-
 use Rattle.port.specs.declared.directions.Direction.the-variants as directions
 use Rattle.port.specs.declared.fates.Fate.{Fate}
 use Rattle.port.specs.declared.fates.Fate.the-variants.{Arrives, Lost, Unheard, Nak, Stall}
@@ -74,10 +73,10 @@ unfolding All-grown
 set-grown bytes es k e′ h i =
     ⊎-elim
     (λ same.
-        ⊎-elim
-        (λ lt. subst (λ e. Grown bytes (getD es i nowhere .taken) (e .taken)) (sym (ap (λ n. getD (set es k e′) n nowhere) same ∙ getD-set-same es k e′ nowhere lt)) (subst (λ n. Grown bytes (getD es n nowhere .taken) (e′ .taken)) (sym same) h))
-        (λ le. same-grown bytes (getD es i nowhere .taken) (getD (set es k e′) i nowhere .taken) (ap (λ l. getD l i nowhere .taken) (set-past es k e′ le)))
-        (cases-lt k (length es)))
+    ⊎-elim
+    (λ lt. subst (λ e. Grown bytes (getD es i nowhere .taken) (e .taken)) (sym (ap (λ n. getD (set es k e′) n nowhere) same ∙ getD-set-same es k e′ nowhere lt)) (subst (λ n. Grown bytes (getD es n nowhere .taken) (e′ .taken)) (sym same) h))
+    (λ le. same-grown bytes (getD es i nowhere .taken) (getD (set es k e′) i nowhere .taken) (ap (λ l. getD l i nowhere .taken) (set-past es k e′ le)))
+    (cases-lt k (length es)))
     (λ other. same-grown bytes (getD es i nowhere .taken) (getD (set es k e′) i nowhere .taken) (ap (λ e. e .taken) (getD-set-other es k i e′ nowhere other)))
     (cases-eq i k)
 

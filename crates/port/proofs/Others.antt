@@ -38,8 +38,8 @@ module _ (a n : ℕ) (d : Direction) where
       ⊎-elim
       (λ t. subst (λ k. stands-at a n d (getD (e ∷ es) k nowhere) ≡ true) (sym (place-first a n d e es t)) t)
       (λ f.
-          let later = place-later a n d e es f in
-          subst (λ k. stands-at a n d (getD (e ∷ es) k nowhere) ≡ true) (sym later) (place-stands es (omega arith)))
+      let later = place-later a n d e es f in
+      subst (λ k. stands-at a n d (getD (e ∷ es) k nowhere) ≡ true) (sym later) (place-stands es (omega arith)))
       (cases-bool (stands-at a n d e))
 
   -- a change at that place leaves an endpoint which does not stand there
@@ -47,10 +47,10 @@ module _ (a n : ℕ) (d : Direction) where
   kept-elsewhere es e′ k f =
       ⊎-elim
       (λ same.
-          ⊎-elim
-          (λ lt. absurd (both-ways (stands-at a n d (getD es k nowhere)) f (subst (λ i. stands-at a n d (getD es i nowhere) ≡ true) (sym same) (place-stands es lt))))
-          (λ le. ap (λ l. getD l k nowhere) (set-past es (place a n d es) e′ le))
-          (cases-lt (place a n d es) (length es)))
+      ⊎-elim
+      (λ lt. absurd (both-ways (stands-at a n d (getD es k nowhere)) f (subst (λ i. stands-at a n d (getD es i nowhere) ≡ true) (sym same) (place-stands es lt))))
+      (λ le. ap (λ l. getD l k nowhere) (set-past es (place a n d es) e′ le))
+      (cases-lt (place a n d es) (length es)))
       (λ other. getD-set-other es (place a n d es) k e′ nowhere other)
       (cases-eq k (place a n d es))
 
@@ -101,7 +101,7 @@ unfolding refused carried Kept-at
 in-kept b number k f = (
   refl,
   at-place-kept k (in-at (next-fate (b .fates)) (b .chip .receive-toggle)) (b .devices) _
-  (kept-elsewhere (b .chip .address) number directions.In (b .devices .endpoints) _ k f),
+      (kept-elsewhere (b .chip .address) number directions.In (b .devices .endpoints) _ k f),
 )
 
 carried-setup-kept : (b : Bus) (k : ℕ) → ((ee : ℕ) → clear-target (request (b .chip)) ≡ Some ee → stands-at (b .chip .address) (ee % 16) (named-direction ee) (getD (b .devices .endpoints) k nowhere) ≡ false) → Kept-at k (b .devices) (carried Setup b .devices)

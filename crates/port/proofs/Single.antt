@@ -48,9 +48,9 @@ module _ (value : ℕ) (b : Bus) where
   unfolding after-put launch
   launch-cases P none some = of (transaction-of value)
     where
-    of : (o : Option Transaction) → P (launch-of o b)
-    of None = none
-    of (Some t) = cond-both (held t (b .chip)) (refused b) (carried t b) P (λ _. none) (λ _. some t)
+      of : (o : Option Transaction) → P (launch-of o b)
+      of None = none
+      of (Some t) = cond-both (held t (b .chip)) (refused b) (carried t b) P (λ _. none) (λ _. some t)
 
 module _ (b : Bus) where
   pub got-6 : got 6 b ≡ length (b .chip .incoming)

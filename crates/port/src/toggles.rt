@@ -44,6 +44,10 @@ impl Toggle {
     pub fn from_number(number: u8) -> Toggle
         ensures { λ r. ⌜ r ≡ toggle-of number ⌝ }
     {
-        if number == 0 { Toggle::Data0 } else { Toggle::Data1 }
+        if number == 0 {
+            Toggle::Data0
+        } else {
+            Toggle::Data1
+        }
     }
 }

@@ -20,7 +20,14 @@ pub enum Reply {
 }
 
 fn open<P: Port>(host: &mut Host<P>, pipe: u8, plan: PipePlan) -> Answer {
-    host.open(pipe, plan.address, plan.endpoint, plan.direction, plan.size, plan.limit)
+    host.open(
+        pipe,
+        plan.address,
+        plan.endpoint,
+        plan.direction,
+        plan.size,
+        plan.limit,
+    )
 }
 
 // One call.
@@ -39,7 +46,10 @@ fn cleared(heap: Global, word: &str, pipe: u8, answer: Answer) -> Result<String,
     let number = answer.number();
     let tries = answer.tries;
     let last = answer.last;
-    format!(heap, "{word} {pipe}: number {number} tries {tries} last {last}\n")
+    format!(
+        heap,
+        "{word} {pipe}: number {number} tries {tries} last {last}\n"
+    )
 }
 
 fn sent(heap: Global, pipe: u8, answer: Answer) -> Result<String, AllocError> {
@@ -48,7 +58,10 @@ fn sent(heap: Global, pipe: u8, answer: Answer) -> Result<String, AllocError> {
     let doubtful = answer.doubtful;
     let tries = answer.tries;
     let last = answer.last;
-    format!(heap, "send {pipe}: number {number} sent {sent} doubtful {doubtful} tries {tries} last {last}\n")
+    format!(
+        heap,
+        "send {pipe}: number {number} sent {sent} doubtful {doubtful} tries {tries} last {last}\n"
+    )
 }
 
 fn standing_word(standing: Option<Standing>) -> &'static str {
@@ -64,7 +77,10 @@ fn seen(heap: Global, pipe: u8, looked: Looked) -> Result<String, AllocError> {
     let number = looked.number();
     let standing = standing_word(looked.standing);
     let toggle = looked.toggle;
-    format!(heap, "look {pipe}: number {number} standing {standing} toggle {toggle}\n")
+    format!(
+        heap,
+        "look {pipe}: number {number} standing {standing} toggle {toggle}\n"
+    )
 }
 
 fn closed(heap: Global, pipe: u8, answer: Answer) -> Result<String, AllocError> {

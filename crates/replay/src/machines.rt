@@ -76,7 +76,11 @@ impl Machine {
     }
 
     // One set-up line. The text is what it prints; none where it is not understood, as after the first call.
-    pub fn prepare(self, heap: Global, step: Step) -> Result<(Machine, Option<String>), AllocError> {
+    pub fn prepare(
+        self,
+        heap: Global,
+        step: Step,
+    ) -> Result<(Machine, Option<String>), AllocError> {
         match self {
             Machine::SettingUp(bench) => {
                 let (bench, text) = bench.prepare(heap, step)?;

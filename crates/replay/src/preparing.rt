@@ -16,7 +16,11 @@ pub struct Bench {
 }
 
 // What a set-up call prints: the number 0, or that of its refusal. Want of memory ends the script.
-fn set_up(heap: Global, word: &str, done: Result<(), SetupError>) -> Result<Option<String>, AllocError> {
+fn set_up(
+    heap: Global,
+    word: &str,
+    done: Result<(), SetupError>,
+) -> Result<Option<String>, AllocError> {
     let number = match done {
         Ok(()) => 0,
         Err(error) => match error.number() {
@@ -35,7 +39,12 @@ fn drive(heap: Global, bench: Bench, bus: Bus) -> (Bench, Option<String>) {
 }
 
 // One put over the bus.
-fn put(heap: Global, bench: Bench, register: u8, value: u8) -> Result<(Bench, Option<String>), AllocError> {
+fn put(
+    heap: Global,
+    bench: Bench,
+    register: u8,
+    value: u8,
+) -> Result<(Bench, Option<String>), AllocError> {
     let text = format!(heap, "put {register}: {value}\n")?;
     let Bench { chip, bus } = bench;
     let chip = buses::put(chip, bus, register, value);
@@ -51,7 +60,11 @@ fn get(heap: Global, bench: Bench, register: u8) -> Result<(Bench, Option<String
 }
 
 // One exchange on the wire. A direct bus has none: the line is not understood.
-fn frame(heap: Global, bench: Bench, bytes: Vec<u8>) -> Result<(Bench, Option<String>), AllocError> {
+fn frame(
+    heap: Global,
+    bench: Bench,
+    bytes: Vec<u8>,
+) -> Result<(Bench, Option<String>), AllocError> {
     let Bus::Framed(duplex) = bench.bus else {
         return Ok((bench, None));
     };
@@ -65,14 +78,24 @@ fn frame(heap: Global, bench: Bench, bytes: Vec<u8>) -> Result<(Bench, Option<St
 }
 
 // One endpoint more.
-fn cell(heap: Global, bench: Bench, plan: EndpointPlan) -> Result<(Bench, Option<String>), AllocError> {
+fn cell(
+    heap: Global,
+    bench: Bench,
+    plan: EndpointPlan,
+) -> Result<(Bench, Option<String>), AllocError> {
     let Bench { mut chip, bus } = bench;
     let text = set_up(heap, "cell", chip.add_endpoint(plan))?;
     Ok((Bench { chip, bus }, text))
 }
 
 // One packet more that waits.
-fn wait(heap: Global, bench: Bench, address: u8, number: u8, bytes: &[u8]) -> Result<(Bench, Option<String>), AllocError> {
+fn wait(
+    heap: Global,
+    bench: Bench,
+    address: u8,
+    number: u8,
+    bytes: &[u8],
+) -> Result<(Bench, Option<String>), AllocError> {
     let Bench { mut chip, bus } = bench;
     let text = set_up(heap, "wait", chip.add_packet(address, number, bytes))?;
     Ok((Bench { chip, bus }, text))
@@ -89,7 +112,10 @@ impl Bench {
     // A fresh bench chip, driven directly.
     pub fn new(heap: Global) -> Result<Bench, AllocError> {
         let chip = BenchChip::new(heap)?;
-        Ok(Bench { chip, bus: Bus::Direct })
+        Ok(Bench {
+            chip,
+            bus: Bus::Direct,
+        })
     }
 
     // Does what a line asks for. The text is what it prints; none where it is not understood.
@@ -97,7 +123,13 @@ impl Bench {
         match step {
             Step::Drive(bus) => Ok(drive(heap, self, bus)),
             Step::Cell(plan) => cell(heap, self, plan),
-            Step::Wait(address, number, bytes) => wait(heap, self, address, number, bytes.as_slice()),
+            Step::Wait(address, number, bytes) => wait(
+                heap,
+                self,
+                address,
+                number,
+                bytes.as_slice(),
+            ),
             Step::Fates(bytes) => fates(heap, self, bytes.as_slice()),
             Step::Put(register, value) => put(heap, self, register, value),
             Step::Get(register) => get(heap, self, register),

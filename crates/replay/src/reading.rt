@@ -132,7 +132,11 @@ fn wait(heap: Global, words: &[&str]) -> Result<Option<Step>, AllocError> {
 
 // The bytes of a line that has nothing but bytes.
 fn only_bytes(heap: Global, words: &[&str]) -> Result<Option<Vec<u8>>, AllocError> {
-    if words.len() == 2 { hexadecimal(heap, words[1]) } else { Ok(None) }
+    if words.len() == 2 {
+        hexadecimal(heap, words[1])
+    } else {
+        Ok(None)
+    }
 }
 
 fn fates(heap: Global, words: &[&str]) -> Result<Option<Step>, AllocError> {
@@ -158,7 +162,11 @@ fn put(words: &[&str]) -> Option<Step> {
 
 // The number of a line that has nothing but a number.
 fn only_byte(words: &[&str]) -> Option<u8> {
-    if words.len() == 2 { byte(words[1]) } else { None }
+    if words.len() == 2 {
+        byte(words[1])
+    } else {
+        None
+    }
 }
 
 fn get(words: &[&str]) -> Option<Step> {

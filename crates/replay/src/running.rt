@@ -6,7 +6,11 @@ use std::alloc::AllocError;
 use std::alloc::Global;
 
 // Does what a line asks for. The text is what it prints; none where the line is not understood.
-fn run(heap: Global, machine: Machine, command: Command) -> Result<(Machine, Option<String>), AllocError> {
+fn run(
+    heap: Global,
+    machine: Machine,
+    command: Command,
+) -> Result<(Machine, Option<String>), AllocError> {
     match command {
         Command::Nothing => Ok((machine, Some(String::new(heap)))),
         Command::New => {
@@ -27,7 +31,12 @@ fn run(heap: Global, machine: Machine, command: Command) -> Result<(Machine, Opt
 }
 
 // What one line of a script prints; `number` counts all its lines from 1.
-fn answer(heap: Global, machine: Machine, number: u64, line: &[u8]) -> Result<(Machine, String), AllocError> {
+fn answer(
+    heap: Global,
+    machine: Machine,
+    number: u64,
+    line: &[u8],
+) -> Result<(Machine, String), AllocError> {
     let (machine, text) = match read(heap, line)? {
         Some(command) => run(heap, machine, command)?,
         None => (machine, None),

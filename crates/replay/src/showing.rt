@@ -18,7 +18,11 @@ pub fn push_hex(heap: Global, out: &mut String, bytes: &[u8]) -> Result<(), Allo
 }
 
 // The packets that wait, `none` where there are none.
-fn push_waiting(heap: Global, out: &mut String, endpoint: &DeviceEndpoint) -> Result<(), AllocError> {
+fn push_waiting(
+    heap: Global,
+    out: &mut String,
+    endpoint: &DeviceEndpoint,
+) -> Result<(), AllocError> {
     if endpoint.packets() == 0 {
         out.push_str(" none")?;
     }
@@ -39,7 +43,11 @@ fn direction_word(direction: Direction) -> &'static str {
 }
 
 // One endpoint.
-pub fn push_endpoint(heap: Global, out: &mut String, endpoint: &DeviceEndpoint) -> Result<(), AllocError> {
+pub fn push_endpoint(
+    heap: Global,
+    out: &mut String,
+    endpoint: &DeviceEndpoint,
+) -> Result<(), AllocError> {
     let state = endpoint.state();
     let address = state.address;
     let number = state.number;
@@ -47,7 +55,10 @@ pub fn push_endpoint(heap: Global, out: &mut String, endpoint: &DeviceEndpoint) 
     let toggle = state.toggle.number();
     let life = if state.halted { "halted" } else { "live" };
     let capacity = state.capacity;
-    let head = format!(heap, "cell {address} {number} {direction} toggle {toggle} {life} capacity {capacity} ")?;
+    let head = format!(
+        heap,
+        "cell {address} {number} {direction} toggle {toggle} {life} capacity {capacity} "
+    )?;
     out.push_str(head.as_str())?;
     match state.direction {
         Direction::Out => {

@@ -10,7 +10,9 @@ impl<'a> Packet<'a> {
         ensures { λ r. ⌜ now (r .bytes) ≡ take (min size 64) (now (message .entry)) ⌝ }
     {
         let length = size.min(PACKET_MOST).min(message.len());
-        Packet { bytes: &message[0..length] }
+        Packet {
+            bytes: &message[0..length],
+        }
     }
 
     pub fn bytes(self) -> &'a [u8]

@@ -16,13 +16,19 @@ use std::alloc::AllocError;
 
 // the most endpoints on a bench, and the most packets that wait at one
 const ENDPOINTS_MOST: usize = 8;
+
 const PACKETS_MOST: usize = 16;
 
 // Whether every value of the plan is in range.
 fn in_range(plan: EndpointPlan) -> bool
     ensures { λ r. ⌜ r ≡ in-range plan ⌝ }
 {
-    1 <= plan.address && plan.address <= 127 && 1 <= plan.number && plan.number <= 15 && plan.toggle <= 1 && plan.capacity <= 4096
+    1 <= plan.address
+        && plan.address <= 127
+        && 1 <= plan.number
+        && plan.number <= 15
+        && plan.toggle <= 1
+        && plan.capacity <= 4096
 }
 
 impl Devices {
@@ -72,7 +78,12 @@ impl Devices {
     }
 
     // One packet more at its endpoint.
-    pub(crate) fn add_packet(&mut self, address: u8, number: u8, bytes: &[u8]) -> Result<(), AllocError>
+    pub(crate) fn add_packet(
+        &mut self,
+        address: u8,
+        number: u8,
+        bytes: &[u8],
+    ) -> Result<(), AllocError>
         requires { ⌜ packet-fits address number (now bytes) (devices-of (now self)) ≡ true ⌝ }
         ensures { λ r. ⌜ Cases r (λ _. devices-of (now (self .exit)) ≡ more-packets (packet-place address number (devices-of (now (self .entry)))) (now (bytes .entry)) (devices-of (now (self .entry)))) (λ _. devices-of (now (self .exit)) ≡ devices-of (now (self .entry))) ⌝ }
     {

@@ -110,8 +110,16 @@ impl ChipRecord {
     pub(crate) fn set_toggles(&mut self, byte: u8)
         ensures { λ _. ⌜ chip-of (now (self .exit)) ≡ set-toggles (chip-of (now (self .entry))) byte ⌝ }
     {
-        self.send_toggle = set_toggle(has_bit(byte, SNDTOG1), has_bit(byte, SNDTOG0), self.send_toggle);
-        self.receive_toggle = set_toggle(has_bit(byte, RCVTOG1), has_bit(byte, RCVTOG0), self.receive_toggle);
+        self.send_toggle = set_toggle(
+            has_bit(byte, SNDTOG1),
+            has_bit(byte, SNDTOG0),
+            self.send_toggle,
+        );
+        self.receive_toggle = set_toggle(
+            has_bit(byte, RCVTOG1),
+            has_bit(byte, RCVTOG0),
+            self.receive_toggle,
+        );
     }
 
     pub(crate) fn take_incoming(&mut self) -> u8

@@ -12,7 +12,9 @@ fn leads_to(place: Option<Pipe>, address: u8, endpoint: u8, direction: Direction
     ensures { λ r. ⌜ r ≡ leads-to address endpoint direction place ⌝ }
 {
     match place {
-        Some(pipe) => pipe.address == address && pipe.endpoint == endpoint && pipe.direction.is(direction),
+        Some(pipe) => pipe.address == address
+            && pipe.endpoint == endpoint
+            && pipe.direction.is(direction),
         None => false,
     }
 }
@@ -22,7 +24,9 @@ impl Table {
     pub(crate) fn new() -> Table
         ensures { λ r. ⌜ r .pipes ≡ replicate 8 None ⌝ }
     {
-        Table { pipes: [None; PIPES] }
+        Table {
+            pipes: [None; PIPES],
+        }
     }
 
     // The pipe of this number, if it is there.
@@ -30,7 +34,11 @@ impl Table {
         ensures { λ r. ⌜ r ≡ pipe-at (now (self .entry) .pipes) number ⌝ }
     {
         let place = number as usize;
-        if place < PIPES { self.pipes[place] } else { None }
+        if place < PIPES {
+            self.pipes[place]
+        } else {
+            None
+        }
     }
 
     // Another pipe in this place, or none.

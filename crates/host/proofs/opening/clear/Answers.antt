@@ -11,10 +11,9 @@ loop-holds g c =
     let go = clear-going (c .args .address) (c .args .endpoint) (c .args .direction) (c .args .limit) in
     let st = clear-step (c .args .address) (c .args .endpoint) (c .args .direction) (c .args .limit) in
     let budget = clear-budget (c .args .address) (c .args .endpoint) (c .args .direction) (c .args .limit) in
-    let b = g .P·Port .meaning (c .args .port .now) in
-    (
+    let b = g .P·Port .meaning (c .args .port .now) in (
       let n : budget - 0 ≡ budget = omega arith in
-      ap (λ k. run go st k (requesting (c .new-clearing .result) b)) n ∙ ap (λ q. run go st budget (requesting q b)) (c .new-clearing .ensures),
+          ap (λ k. run go st k (requesting (c .new-clearing .result) b)) n ∙ ap (λ q. run go st budget (requesting q b)) (c .new-clearing .ensures),
       subst (λ q. q .tries ≤ 0) (sym (c .new-clearing .ensures)) (let z : _≤_ 0 0 = omega arith in z),
     )
 
@@ -33,10 +32,9 @@ pub loop-again : need.loop-again
 loop-again g c =
     let go = clear-going (c .args .address) (c .args .endpoint) (c .args .direction) (c .args .limit) in
     let st = clear-step (c .args .address) (c .args .endpoint) (c .args .direction) (c .args .limit) in
-    let budget = clear-budget (c .args .address) (c .args .endpoint) (c .args .direction) (c .args .limit) in
-    (
+    let budget = clear-budget (c .args .address) (c .args .endpoint) (c .args .direction) (c .args .limit) in (
       turn-more go st budget (c .loop .counter) (requesting (c .loop .clearing) (g .P·Port .meaning (c .loop .port))) _ (c .loop .inv .0) _ (c .loop-test .taken) (c .if-not-going .ensures tt)
-      (λ i. requesting (c .step .ensures .clearing i) (c .step .ensures .after i)),
+          (λ i. requesting (c .step .ensures .clearing i) (c .step .ensures .after i)),
       omega (arith, ap (λ q. q .tries) (c .step .ensures .clearing), c .loop .inv .1),
     )
 

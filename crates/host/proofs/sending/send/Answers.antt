@@ -12,11 +12,10 @@ pub loop-holds : need.loop-holds
 loop-holds g c =
     let p = c .args .pipe in
     let m = c .args .message .now in
-    let b = g .P·Port .meaning (c .args .port .now) in
-    (
+    let b = g .P·Port .meaning (c .args .port .now) in (
       let n : send-budget p m - 0 ≡ send-budget p m = omega arith in
-      ap (λ k. run (send-going p m) (send-step p m) k (sending (c .new-progress .result) b)) n
-      ∙ ap (λ q. run (send-going p m) (send-step p m) (send-budget p m) (sending q b)) (c .new-progress .ensures),
+          ap (λ k. run (send-going p m) (send-step p m) k (sending (c .new-progress .result) b)) n
+          ∙ ap (λ q. run (send-going p m) (send-step p m) (send-budget p m) (sending q b)) (c .new-progress .ensures),
       subst (λ q. q .tries ≤ 0) (sym (c .new-progress .ensures)) (let z : _≤_ 0 0 = omega arith in z),
       subst (λ q. q .sent ≤ length m) (sym (c .new-progress .ensures)) (let z : 0 ≤ length m = omega arith in z),
     )
@@ -36,10 +35,9 @@ loop-again g c =
     let p = c .args .pipe in
     let m = c .args .message .now in
     let q = c .loop .progress in
-    let b = g .P·Port .meaning (c .loop .port) in
-    (
+    let b = g .P·Port .meaning (c .loop .port) in (
       turn-more (send-going p m) (send-step p m) (send-budget p m) (c .loop .counter) (sending q b) _ (c .loop .inv .0) _ (c .loop-test .taken) (c .if-not-going .ensures tt)
-      (λ i. sending (c .step .ensures .progress i) (c .step .ensures .after i)),
+          (λ i. sending (c .step .ensures .progress i) (c .step .ensures .after i)),
       omega (arith, ap (λ q. q .tries) (c .step .ensures .progress), c .loop .inv .1),
       subst (λ q. q .sent ≤ length m) (sym (c .step .ensures .progress)) (step-sent p m q b (c .loop .inv .2)),
     )
