@@ -74,7 +74,7 @@ take-join : (n : ℕ) (k : ℕ) (xs : List ℕ) → take n xs ++ take k (drop n 
 take-join n k xs = sym (take-add n (length (take k (drop n xs))) xs ∙ ap (λ l. take n xs ++ l) (take-cut k (drop n xs)))
 
 -- a change that keeps an endpoint's address, number and direction moves no place
-place-set : (a n : ℕ) (d : Direction) (es : List Endpoint) (k : ℕ) (e′ : Endpoint) → k < length es → stands-at a n d e′ ≡ stands-at a n d (getD es k nowhere) → place a n d (set es k e′) ≡ place a n d es
+pub place-set : (a n : ℕ) (d : Direction) (es : List Endpoint) (k : ℕ) (e′ : Endpoint) → k < length es → stands-at a n d e′ ≡ stands-at a n d (getD es k nowhere) → place a n d (set es k e′) ≡ place a n d es
 unfolding place
 place-set a n d [] k e′ lt h = absurd (omega arith)
 place-set a n d (e ∷ es) zero e′ lt h = ap (λ b. cond b 0 (suc (place a n d es))) h

@@ -2,11 +2,14 @@ mod Accounted
 mod Accounts
 mod Budgets
 mod Declines
+mod InStep
 mod Judging
+mod Opened
 mod OutTry
 mod Reaches
 mod Replies
 mod Runs
 mod Searches
 mod Sent
+mod StageTry
 mod Steps

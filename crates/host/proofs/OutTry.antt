@@ -114,7 +114,7 @@ ready-packet c a t bytes =
     ∙ append-nil bytes
 
 -- R31 read back
-status-code : (s r : Toggle) (x : ℕ) → x < 16 → code-of (32 * bit s + 16 * bit r + x) ≡ x
+pub status-code : (s r : Toggle) (x : ℕ) → x < 16 → code-of (32 * bit s + 16 * bit r + x) ≡ x
 status-code Data0 Data0 x h = omega arith
 status-code Data0 Data1 x h = omega arith
 status-code Data1 Data0 x h = omega arith

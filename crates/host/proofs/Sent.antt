@@ -68,7 +68,7 @@ not-zero NakLimit e = omega arith
 not-zero ThirdMiss e = omega arith
 not-zero Stalled e = omega arith
 
-succeeded : (o : Option Refusal) → number-of o ≡ 0 → none-yet o ≡ true
+pub succeeded : (o : Option Refusal) → number-of o ≡ 0 → none-yet o ≡ true
 succeeded None e = refl
 succeeded (Some why) e = absurd (not-zero why e)
 

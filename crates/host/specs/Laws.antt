@@ -21,7 +21,7 @@ use Rattle.host.specs.declared.refusals.Refusal.the-variants.{NakLimit}
 use Rattle.host.specs.Answers.{answer-number, declined}
 use Rattle.host.specs.Tables.{Places, pipe-at}
 use Rattle.host.specs.Checks.{admit-send, open-refusal, admit-recover, present}
-use Rattle.host.specs.Calls.{Done, done, open-done, send-done, recover-done, close-done}
+use Rattle.host.specs.Calls.{Done, done, new-pipe, recovered, open-done, send-done, recover-done, close-done}
 
 -- the place of a pipe's endpoint among the devices' endpoints, and the endpoint
 abbrev pub spot : Pipe → Bus → ℕ
@@ -78,6 +78,14 @@ Busy-printers-stay-in-step =
     number < length places → admit-send places number (length message) ≡ Ok p → In-step p b →
     send-done places b number message .answer .refusal ≡ Some NakLimit → send-done places b number message .answer .doubtful ≡ 0 →
     (p′ : Pipe) × (pipe-at (send-done places b number message .places) number ≡ Some p′) × In-step p′ (send-done places b number message .bus) × (p′ .standing ≡ p .standing)
+
+-- an OUT pipe that open makes, or recover brings back, is in step with its device: the request that succeeded found the endpoint, set its
+-- toggle to DATA0 and lifted its halt. The chip's buffers are empty before, as every launch leaves them
+abbrev pub Opened-pipes-are-in-step : Type 0
+Opened-pipes-are-in-step =
+    (places : Places) (b : Bus) (number : ℕ) → b .chip .setup ≡ [] → b .chip .sending ≡ [] →
+    ((address endpoint size limit : ℕ) → open-refusal places number address endpoint Out size limit ≡ None → answer-number (open-done places b number address endpoint Out size limit .answer) ≡ 0 → In-step (new-pipe address endpoint Out size limit) (open-done places b number address endpoint Out size limit .bus))
+    × ((p : Pipe) → admit-recover places number ≡ Ok p → p .direction ≡ Out → Made p → answer-number (recover-done places b number .answer) ≡ 0 → In-step (recovered places b number p None) (recover-done places b number .bus))
 
 -- a call that declines answers with its refusal and nothing else, and leaves table and bus as they were
 abbrev pub Declined-calls-change-nothing : Type 0

@@ -1,5 +1,10 @@
 // What the calls promise, each on a function of its own: the function does nothing, and its contract is the promise.
-ghost use Rattle.host.specs.Laws.{Sends-are-accounted-for, Answers-stay-within-the-message, Success-sends-all, Busy-printers-stay-in-step, Declined-calls-change-nothing, Tries-are-launches};
+ghost use Rattle.host.specs.Laws.{Opened-pipes-are-in-step, Sends-are-accounted-for, Answers-stay-within-the-message, Success-sends-all, Busy-printers-stay-in-step, Declined-calls-change-nothing, Tries-are-launches};
+
+// An OUT pipe that open makes, or that recover brings back, is in step with its device.
+pub fn an_opened_pipe_is_in_step()
+    ensures { λ _. ⌜ Opened-pipes-are-in-step ⌝ }
+{}
 
 // Whatever the bus does, a send over a pipe that is in step with its device leaves the device with exactly the bytes sent, or those
 // and the doubtful ones, the first of the message, and every other endpoint as it was.
