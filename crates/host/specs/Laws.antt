@@ -79,6 +79,14 @@ Busy-printers-stay-in-step =
     send-done places b number message .answer .refusal ≡ Some NakLimit → send-done places b number message .answer .doubtful ≡ 0 →
     (p′ : Pipe) × (pipe-at (send-done places b number message .places) number ≡ Some p′) × In-step p′ (send-done places b number message .bus) × (p′ .standing ≡ p .standing)
 
+-- a pipe whose standing is in step after a send is in step with its device
+abbrev pub Sends-keep-step : Type 0
+Sends-keep-step =
+    (places : Places) (b : Bus) (number : ℕ) (message : List ℕ) (p p′ : Pipe) →
+    number < length places → admit-send places number (length message) ≡ Ok p → In-step p b →
+    pipe-at (send-done places b number message .places) number ≡ Some p′ → p′ .standing ≡ InStep →
+    In-step p′ (send-done places b number message .bus)
+
 -- an OUT pipe that open makes, or recover brings back, is in step with its device: the request that succeeded found the endpoint, set its
 -- toggle to DATA0 and lifted its halt. The chip's buffers are empty before, as every launch leaves them
 abbrev pub Opened-pipes-are-in-step : Type 0

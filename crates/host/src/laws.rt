@@ -1,5 +1,5 @@
 // What the calls promise, each on a function of its own: the function does nothing, and its contract is the promise.
-ghost use Rattle.host.specs.Laws.{Opened-pipes-are-in-step, Sends-are-accounted-for, Answers-stay-within-the-message, Success-sends-all, Busy-printers-stay-in-step, Declined-calls-change-nothing, Tries-are-launches};
+ghost use Rattle.host.specs.Laws.{Opened-pipes-are-in-step, Sends-keep-step, Sends-are-accounted-for, Answers-stay-within-the-message, Success-sends-all, Busy-printers-stay-in-step, Declined-calls-change-nothing, Tries-are-launches};
 
 // An OUT pipe that open makes, or that recover brings back, is in step with its device.
 pub fn an_opened_pipe_is_in_step()
@@ -25,6 +25,11 @@ pub fn success_means_all_is_sent()
 // A send that stops at the NAK limit with nothing doubtful leaves its pipe in step with its device.
 pub fn a_busy_printer_stays_in_step()
     ensures { λ _. ⌜ Busy-printers-stay-in-step ⌝ }
+{}
+
+// A pipe that is shown in step after a send is in step with its device.
+pub fn a_pipe_shown_in_step_after_a_send_is_in_step()
+    ensures { λ _. ⌜ Sends-keep-step ⌝ }
 {}
 
 // A call that declines changes nothing.
