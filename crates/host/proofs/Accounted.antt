@@ -184,14 +184,14 @@ shown : (standing : Standing) (n d : ℕ) → next-standing standing (send-event
 shown standing n d h =
     ⊎-elim (λ t. inl (eqb-true n 0 t))
     (λ (zero : eqb n 0 ≡ false).
-        ⊎-elim
-        (λ (stalled : eqb n 16 ≡ true). absurd (halted-not (sym (let e : next-standing standing (send-event n d) ≡ Halted = rw (zero, stalled) refl in e) ∙ h)))
-        (λ (other : eqb n 16 ≡ false).
-            ⊎-elim
-            (λ (some : ltb 0 d ≡ true). absurd (doubtful-not (sym (let e : next-standing standing (send-event n d) ≡ Doubtful = rw (zero, other, some) refl in e) ∙ h)))
-            (λ (none : ltb 0 d ≡ false). inr (eqb-false n 16 other, (let le = ltb-false 0 d none in omega arith)))
-            (cases-bool (ltb 0 d)))
-        (cases-bool (eqb n 16)))
+    ⊎-elim
+    (λ (stalled : eqb n 16 ≡ true). absurd (halted-not (sym (let e : next-standing standing (send-event n d) ≡ Halted = rw (zero, stalled) refl in e) ∙ h)))
+    (λ (other : eqb n 16 ≡ false).
+    ⊎-elim
+    (λ (some : ltb 0 d ≡ true). absurd (doubtful-not (sym (let e : next-standing standing (send-event n d) ≡ Doubtful = rw (zero, other, some) refl in e) ∙ h)))
+    (λ (none : ltb 0 d ≡ false). inr (eqb-false n 16 other, (let le = ltb-false 0 d none in omega arith)))
+    (cases-bool (ltb 0 d)))
+    (cases-bool (eqb n 16)))
     (cases-bool (eqb n 0))
 
 same-some : (p p′ : Pipe) → Some p ≡ Some p′ → p ≡ p′
@@ -206,16 +206,16 @@ sends-keep-step places b number message p p′ inside admitted step found standi
     let is : p″ ≡ p′ = same-some p″ p′ (sym (ap (λ d. getD (d .places) number None) e ∙ getD-set-same places number (Some p″) None inside) ∙ found) in
     let told = shown (p .standing) (number-of (q .stop)) (doubt p message q) (ap (λ x. x .standing) is ∙ standing) in
     let clean : getD (send-run p message b .bus .devices .endpoints) (spot p b) nowhere .toggle ≡ q .toggle =
-        ⊎-elim (λ first. first .0)
-        (λ second.
-            ⊎-elim
-            (λ none. let all = all-sent p message b (step .made) none in absurd (false≢true (sym (run-sure p message b (omega arith)) ∙ second .0)))
-            (λ stopped.
-                let d = doubt-stopped p message q stopped (second .0) in
-                let some = packet-some p message (step .made .size-above) (step .made .limit-above) q (run-short p message b stopped) in
-                ⊎-elim (λ zero. absurd (false≢true (sym stopped ∙ unstopped (q .stop) zero))) (λ sure. absurd (let z = sure .1 in omega arith)) told)
-            (cases-bool (none-yet (q .stop))))
-        (held .at) in
+    ⊎-elim (λ first. first .0)
+    (λ second.
+    ⊎-elim
+    (λ none. let all = all-sent p message b (step .made) none in absurd (false≢true (sym (run-sure p message b (omega arith)) ∙ second .0)))
+    (λ stopped.
+    let d = doubt-stopped p message q stopped (second .0) in
+    let some = packet-some p message (step .made .size-above) (step .made .limit-above) q (run-short p message b stopped) in
+    ⊎-elim (λ zero. absurd (false≢true (sym stopped ∙ unstopped (q .stop) zero))) (λ sure. absurd (let z = sure .1 in omega arith)) told)
+    (cases-bool (none-yet (q .stop))))
+    (held .at) in
     let alive : getD (send-run p message b .bus .devices .endpoints) (spot p b) nowhere .halted ≡ false =
-        ⊎-elim (λ x. x) (λ x. ⊎-elim (λ zero. let z : _≡_ {A = ℕ} 16 0 = sym (ap number-of x) ∙ zero in absurd (omega arith)) (λ sure. absurd (sure .0 (ap number-of x))) told) (held .live) in
+    ⊎-elim (λ x. x) (λ x. ⊎-elim (λ zero. let z : _≡_ {A = ℕ} 16 0 = sym (ap number-of x) ∙ zero in absurd (omega arith)) (λ sure. absurd (sure .0 (ap number-of x))) told) (held .live) in
     subst (λ x. In-step x (send-done places b number message .bus)) is (subst (In-step p″) (sym (ap (λ d. d .bus) e)) (still-in-step p message b places number step clean alive))

@@ -82,8 +82,8 @@ made-by-open places number a e size limit h =
       limit-above = (let z = eqb-false limit 0 (seven .0) in above limit z);
     }
   where
-  above : (n : ℕ) → (n ≡ 0 → ⊥) → 1 ≤ n
-  above n h = ⊎-elim (λ z. absurd (h z)) (λ z. omega arith) (cases-eq n 0)
+    above : (n : ℕ) → (n ≡ 0 → ⊥) → 1 ≤ n
+    above n h = ⊎-elim (λ z. absurd (h z)) (λ z. omega arith) (cases-eq n 0)
 
 pub opened-pipes-are-in-step : Opened-pipes-are-in-step
 opened-pipes-are-in-step places b number no-setup no-sending = (

@@ -127,15 +127,14 @@ module _ (a e limit : ℕ) (low : 1 ≤ e) (high : e ≤ 15) (some : 1 ≤ limit
       let i = place (a % 128) e Out es in
       let d₁ : Devices = with-heard (cleared-at i d) (record { address = a % 128; good = ltb i (length es) }) in
       let is : with-heard (cleared-at (clear-place (a % 128) (clear-request e Out) es) d) (record { address = a % 128; good = ltb (clear-place (a % 128) (clear-request e Out) es) (length es) }) ≡ d₁ =
-          ap (λ k. with-heard (cleared-at k d) (record { address = a % 128; good = ltb k (length es) })) (finds es) in
+      ap (λ k. with-heard (cleared-at k d) (record { address = a % 128; good = ltb k (length es) })) (finds es) in
       let n = length-set es i (cleared (getD es i nowhere)) in
       let stays : spot-in d₁ ≡ i =
-          ⊎-elim
-          (λ lt. place-set (a % 128) e Out es i (cleared (getD es i nowhere)) lt refl)
-          (λ le. ap (place (a % 128) e Out) (set-past es i (cleared (getD es i nowhere)) le))
-          (cases-lt i (length es)) in
-      subst (λ x. (x .heard ≡ Some (heard-of x)) × (spot-in x < length (x .endpoints) → There x)) (sym is)
-      (
+      ⊎-elim
+      (λ lt. place-set (a % 128) e Out es i (cleared (getD es i nowhere)) lt refl)
+      (λ le. ap (place (a % 128) e Out) (set-past es i (cleared (getD es i nowhere)) le))
+      (cases-lt i (length es)) in
+      subst (λ x. (x .heard ≡ Some (heard-of x)) × (spot-in x < length (x .endpoints) → There x)) (sym is) (
         (let back = sym stays in let long = sym n in λ j. Some (record { address = a % 128; good = ltb (back j) (long j) })),
         λ lt.
             let inside : i < length es = omega arith in
@@ -156,9 +155,9 @@ module _ (a e limit : ℕ) (low : 1 ≤ e) (high : e ≤ 15) (some : 1 ≤ limit
   counts-kept : (code : ℕ) (c : Counts) → Bounds limit c → Bounds limit (cond (succeeded (verdict code c)) (fresh-counts limit) (counted code c))
   counts-kept code c h =
       elim (judge-cases limit code c h) [
-        won v n ↦ subst (λ x. Bounds limit (cond (succeeded x) (fresh-counts limit) (counted code c))) (sym v) fresh-bounds
-      | again v n k ↦ subst (λ x. Bounds limit (cond (succeeded x) (fresh-counts limit) (counted code c))) (sym v) k
-      | stops why v k ↦ subst (λ x. Bounds limit (cond (succeeded x) (fresh-counts limit) (counted code c))) (sym v) k
+        | won v n ↦ subst (λ x. Bounds limit (cond (succeeded x) (fresh-counts limit) (counted code c))) (sym v) fresh-bounds
+        | again v n k ↦ subst (λ x. Bounds limit (cond (succeeded x) (fresh-counts limit) (counted code c))) (sym v) k
+        | stops why v k ↦ subst (λ x. Bounds limit (cond (succeeded x) (fresh-counts limit) (counted code c))) (sym v) k
       ]
 
   -- the next stage is known where the try succeeds, and the present one where it does not
@@ -180,8 +179,8 @@ module _ (a e limit : ℕ) (low : 1 ≤ e) (high : e ≤ 15) (some : 1 ≤ limit
         known =
             known-after code c Setup (b .devices) (after-stage a 0x10 bytes b .devices)
             (λ zero.
-                let o : setup-outcome (a % 128) fate (b .devices) bytes .code ≡ 0 = sym (staged .code) ∙ zero in
-                subst (Known Handshake) (sym (staged .devices ∙ setup-zero (a % 128) fate (b .devices) bytes (next-real (b .fates)) o)) (heard-known (b .devices)))
+            let o : setup-outcome (a % 128) fate (b .devices) bytes .code ≡ 0 = sym (staged .code) ∙ zero in
+            subst (Known Handshake) (sym (staged .devices ∙ setup-zero (a % 128) fate (b .devices) bytes (next-real (b .fates)) o)) (heard-known (b .devices)))
             tt;
       }
   step-at Handshake c tries last stop b h g =
@@ -197,10 +196,10 @@ module _ (a e limit : ℕ) (low : 1 ≤ e) (high : e ≤ 15) (some : 1 ≤ limit
         known =
             known-after code c Handshake d (after-stage a 0x80 [] b .devices)
             (λ zero.
-                let o : hs-outcome (a % 128) fate d .code ≡ 0 = sym (staged .code) ∙ zero in
-                let good = sym (ap (heard-good (a % 128)) (h .known .0)) ∙ hs-zero (a % 128) fate d (next-real (b .fates)) o in
-                let inside = ltb-true (spot-in d) (length (d .endpoints)) (and-parts (eqb (a % 128) (a % 128)) (ltb (spot-in d) (length (d .endpoints))) good .1) in
-                subst (Known Done) (sym same) (h .known .1 inside))
+            let o : hs-outcome (a % 128) fate d .code ≡ 0 = sym (staged .code) ∙ zero in
+            let good = sym (ap (heard-good (a % 128)) (h .known .0)) ∙ hs-zero (a % 128) fate d (next-real (b .fates)) o in
+            let inside = ltb-true (spot-in d) (length (d .endpoints)) (and-parts (eqb (a % 128) (a % 128)) (ltb (spot-in d) (length (d .endpoints))) good .1) in
+            subst (Known Done) (sym same) (h .known .1 inside))
             (subst (Known Handshake) (sym same) (h .known));
       }
   step-at Done c tries last stop b h g = absurd (false≢true (and-parts (none-yet stop) false g .1))
@@ -243,9 +242,9 @@ module _ (a e limit : ℕ) (low : 1 ≤ e) (high : e ≤ 15) (some : 1 ≤ limit
   falls-at : (stage : Stage) (code : ℕ) (c : Counts) → Bounds limit c → not (is-done stage) ≡ true → none-yet (stop-of (verdict code c)) ≡ true → rank (cond (succeeded (verdict code c)) (next-stage stage) stage) * (limit + 3) + cond (succeeded (verdict code c)) (fresh-counts limit) (counted code c) .misses + cond (succeeded (verdict code c)) (fresh-counts limit) (counted code c) .naks - (limit + 3) < rank stage * (limit + 3) + c .misses + c .naks - (limit + 3)
   falls-at stage code c h g none =
       elim (judge-cases limit code c h) [
-        won v n ↦ subst (λ x. rank (cond (succeeded x) (next-stage stage) stage) * (limit + 3) + cond (succeeded x) (fresh-counts limit) (counted code c) .misses + cond (succeeded x) (fresh-counts limit) (counted code c) .naks - (limit + 3) < rank stage * (limit + 3) + c .misses + c .naks - (limit + 3)) (sym v) (on-won stage c h g)
-      | again v n k ↦ subst (λ x. rank (cond (succeeded x) (next-stage stage) stage) * (limit + 3) + cond (succeeded x) (fresh-counts limit) (counted code c) .misses + cond (succeeded x) (fresh-counts limit) (counted code c) .naks - (limit + 3) < rank stage * (limit + 3) + c .misses + c .naks - (limit + 3)) (sym v) (on-again stage c (counted code c) h n k g)
-      | stops why v k ↦ absurd (false≢true (sym (ap (λ x. none-yet (stop-of x)) v) ∙ none))
+        | won v n ↦ subst (λ x. rank (cond (succeeded x) (next-stage stage) stage) * (limit + 3) + cond (succeeded x) (fresh-counts limit) (counted code c) .misses + cond (succeeded x) (fresh-counts limit) (counted code c) .naks - (limit + 3) < rank stage * (limit + 3) + c .misses + c .naks - (limit + 3)) (sym v) (on-won stage c h g)
+        | again v n k ↦ subst (λ x. rank (cond (succeeded x) (next-stage stage) stage) * (limit + 3) + cond (succeeded x) (fresh-counts limit) (counted code c) .misses + cond (succeeded x) (fresh-counts limit) (counted code c) .naks - (limit + 3) < rank stage * (limit + 3) + c .misses + c .naks - (limit + 3)) (sym v) (on-again stage c (counted code c) h n k g)
+        | stops why v k ↦ absurd (false≢true (sym (ap (λ x. none-yet (stop-of x)) v) ∙ none))
       ]
 
   falls : (s : Requesting) → Asked s → clear-going a e Out limit s ≡ true → clear-going a e Out limit (clear-step a e Out limit s) ≡ true → left (clear-step a e Out limit s) < left s

@@ -62,7 +62,7 @@ loads (x ∷ xs) b h =
     let more = with-chip b (with-request (b .chip) (setup ++ x ∷ [])) in
     let room : length setup < 8 = omega arith in
     let one : after-put 4 x b ≡ more =
-        put-4 x b ∙ ap (λ t. with-chip b (with-request (b .chip) (cond t (setup ++ x ∷ []) setup))) (lt-ltb (length setup) 8 room) in
+    put-4 x b ∙ ap (λ t. with-chip b (with-request (b .chip) (cond t (setup ++ x ∷ []) setup))) (lt-ltb (length setup) 8 room) in
     let n = length-push setup x in
     ap (after-puts 4 xs) one
     ∙ loads xs more (omega arith)

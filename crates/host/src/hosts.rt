@@ -189,10 +189,8 @@ impl<P: Port> Host<P> {
     {
         let progress = sending::send(&mut self.port, pipe, message);
         let answer = sending::answer(progress, pipe, message);
-        let mut after = pipe;
-        after.toggle = progress.toggle;
-        after.standing.advance(sending::event(answer));
-        self.table.store(number, Some(after));
+        self.table
+            .settle(number, pipe, progress.toggle, sending::event(answer));
         answer
     }
 
@@ -209,14 +207,13 @@ impl<P: Port> Host<P> {
             pipe.direction,
             pipe.limit,
         );
-        let mut after = pipe;
         if clearing.stop.is_none() {
-            after.toggle = Toggle::Data0;
-            after.standing.advance(Event::Succeeded);
+            self.table
+                .settle(number, pipe, Toggle::Data0, Event::Succeeded);
         } else {
-            after.standing.advance(Event::RecoverFailed);
+            self.table
+                .settle(number, pipe, pipe.toggle, Event::RecoverFailed);
         }
-        self.table.store(number, Some(after));
         opening::answer(clearing)
     }
 }
