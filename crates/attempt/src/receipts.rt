@@ -20,6 +20,16 @@ impl Drop for Receipt {
     }
 }
 
+impl Receipt {
+    // Hands the receipt in, which is done once.
+    fn hand_in(&mut self)
+        requires { ⌜ now self .«handed_in» ≡ false ⌝ }
+        ensures { λ _. ⌜ now (self .exit) .«handed_in» ≡ true ⌝ }
+    {
+        self.handed_in = true;
+    }
+}
+
 // Launches the transaction that the value stands for.
 pub fn launch<P: Port>(port: &mut P, value: u8) -> Receipt
     ensures receipt { λ r. ⌜ r .«handed_in» ≡ false ⌝ }
@@ -36,6 +46,8 @@ pub fn result<P: Port>(port: &mut P, receipt: Receipt) -> u8
 {
     let status = port.get(HRSL);
     let mut receipt = receipt;
-    receipt.handed_in = true;
+    if !receipt.handed_in {
+        receipt.hand_in();
+    }
     status
 }
