@@ -1,4 +1,6 @@
 // One try: one transaction over any port, by exactly the register accesses that it takes, and its result.
+#![tactic(auto)]
+
 mod packets;
 mod receipts;
 mod tries;

@@ -32,7 +32,7 @@ impl Receipt {
 // Launches the transaction that the value stands for.
 pub fn launch<P: Port>(port: &mut P, value: u8) -> Receipt
     ensures receipt { result.handed_in ≡ false }
-    ensures after { meaning port.new ≡ after_put 30 value (meaning port.old) }
+    ensures after { P.meaning port.new ≡ after_put 30 value (P.meaning port.old) }
 {
     port.put(HXFR, value);
     Receipt { handed_in: false }
@@ -40,8 +40,8 @@ pub fn launch<P: Port>(port: &mut P, value: u8) -> Receipt
 
 // Hands in the receipt: what R31 says of the launch, its toggles and its result code.
 pub fn result<P: Port>(port: &mut P, receipt: Receipt) -> u8
-    ensures value { result ≡ got 31 (meaning port.old) }
-    ensures after { meaning port.new ≡ after_get 31 (meaning port.old) }
+    ensures value { result ≡ got 31 (P.meaning port.old) }
+    ensures after { P.meaning port.new ≡ after_get 31 (P.meaning port.old) }
 {
     let status = port.get(HRSL);
     let mut receipt = receipt;

@@ -43,7 +43,7 @@ fn receive_control(toggle: Toggle) -> u8
 
 // The beginning of every try.
 fn begin<P: Port>(port: &mut P, address: u8, control: Option<u8>)
-    ensures { meaning port.new ≡ begun address control (meaning port.old) }
+    ensures { P.meaning port.new ≡ begun address control (P.meaning port.old) }
 {
     port.put(PERADDR, address);
     if let Some(control) = control {
@@ -53,8 +53,8 @@ fn begin<P: Port>(port: &mut P, address: u8, control: Option<u8>)
 
 // The middle of every try: the launch, and its result by R31.
 fn transact<P: Port>(port: &mut P, value: u8) -> u8
-    ensures status { result ≡ got 31 (launched value (meaning port.old)) }
-    ensures after { meaning port.new ≡ result_got (launched value (meaning port.old)) }
+    ensures status { result ≡ got 31 (launched value (P.meaning port.old)) }
+    ensures after { P.meaning port.new ≡ result_got (launched value (P.meaning port.old)) }
 {
     let receipt = launch(port, value);
     result(port, receipt)
@@ -68,8 +68,8 @@ pub fn try_out<P: Port>(
     toggle: Toggle,
     packet: Packet,
 ) -> (u8, u8)
-    ensures answer { result ≡ out_answer address endpoint toggle packet.entry.bytes.now (meaning port.old) }
-    ensures after { meaning port.new ≡ after_out address endpoint toggle packet.entry.bytes.now (meaning port.old) }
+    ensures answer { result ≡ out_answer address endpoint toggle packet.entry.bytes.now (P.meaning port.old) }
+    ensures after { P.meaning port.new ≡ after_out address endpoint toggle packet.entry.bytes.now (P.meaning port.old) }
 {
     let bytes = packet.bytes();
     begin(port, address, Some(send_control(toggle)));
@@ -82,8 +82,8 @@ pub fn try_out<P: Port>(
 
 // A stage of a control request: SETUP with its eight bytes, or HS-IN with none.
 fn try_stage<P: Port>(port: &mut P, address: u8, value: u8, setup: &[u8]) -> (u8, u8)
-    ensures answer { result ≡ stage_answer address value setup.now (meaning port.old) }
-    ensures after { meaning port.new ≡ after_stage address value setup.now (meaning port.old) }
+    ensures answer { result ≡ stage_answer address value setup.now (P.meaning port.old) }
+    ensures after { P.meaning port.new ≡ after_stage address value setup.now (P.meaning port.old) }
 {
     begin(port, address, None);
     port.put_many(SUDFIFO, setup);
@@ -94,25 +94,25 @@ fn try_stage<P: Port>(port: &mut P, address: u8, value: u8, setup: &[u8]) -> (u8
 
 // SETUP: sends eight setup bytes to a device, and answers with the result code and 0.
 pub fn try_setup<P: Port>(port: &mut P, address: u8, setup: &[u8; SETUP_LENGTH]) -> (u8, u8)
-    ensures answer { result ≡ stage_answer address 0x10 setup.now (meaning port.old) }
-    ensures after { meaning port.new ≡ after_stage address 0x10 setup.now (meaning port.old) }
+    ensures answer { result ≡ stage_answer address 0x10 setup.now (P.meaning port.old) }
+    ensures after { P.meaning port.new ≡ after_stage address 0x10 setup.now (P.meaning port.old) }
 {
     try_stage(port, address, LAUNCH_SETUP, setup)
 }
 
 // HS-IN: asks a device whether it did what the last SETUP asked, and answers with the result code and 0.
 pub fn try_hs_in<P: Port>(port: &mut P, address: u8) -> (u8, u8)
-    ensures answer { result ≡ stage_answer address 0x80 [] (meaning port.old) }
-    ensures after { meaning port.new ≡ after_stage address 0x80 [] (meaning port.old) }
+    ensures answer { result ≡ stage_answer address 0x80 [] (P.meaning port.old) }
+    ensures after { P.meaning port.new ≡ after_stage address 0x80 [] (P.meaning port.old) }
 {
     try_stage(port, address, LAUNCH_HS_IN, &[])
 }
 
 // The packet that an IN with result 0 received.
 fn read<P: Port>(port: &mut P, room: &mut [u8]) -> Arrival
-    ensures arrival { result ≡ arrived room.old (meaning port.old) }
-    ensures bytes { room.new ≡ room_read room.old (meaning port.old) }
-    ensures after { meaning port.new ≡ after_read room.old (meaning port.old) }
+    ensures arrival { result ≡ arrived room.old (P.meaning port.old) }
+    ensures bytes { room.new ≡ room_read room.old (P.meaning port.old) }
+    ensures after { P.meaning port.new ≡ after_read room.old (P.meaning port.old) }
 {
     let length = port.get(RCVBC) as usize;
     if length > room.len() {
@@ -132,10 +132,10 @@ pub fn try_in<P: Port>(
     toggle: Toggle,
     room: &mut [u8],
 ) -> ((u8, u8), Arrival)
-    ensures answer { result.0 ≡ in_answer address endpoint toggle room.old (meaning port.old) }
-    ensures arrival { result.1 ≡ in_arrival address endpoint toggle room.old (meaning port.old) }
-    ensures bytes { room.new ≡ in_room address endpoint toggle room.old (meaning port.old) }
-    ensures after { meaning port.new ≡ after_in address endpoint toggle room.old (meaning port.old) }
+    ensures answer { result.0 ≡ in_answer address endpoint toggle room.old (P.meaning port.old) }
+    ensures arrival { result.1 ≡ in_arrival address endpoint toggle room.old (P.meaning port.old) }
+    ensures bytes { room.new ≡ in_room address endpoint toggle room.old (P.meaning port.old) }
+    ensures after { P.meaning port.new ≡ after_in address endpoint toggle room.old (P.meaning port.old) }
 {
     begin(port, address, Some(receive_control(toggle)));
     let status = transact(port, endpoint % 16);

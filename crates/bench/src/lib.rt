@@ -1,4 +1,6 @@
 // The bench chip: a port in memory, with devices that can be set up and faults that can be injected.
+#![tactic(auto)]
+
 mod boards;
 mod chips;
 pub mod laws;

@@ -1,4 +1,6 @@
 // The devices on a bench bus, in memory: their endpoints, how they are set up, and how they react to a transaction.
+#![tactic(auto)]
+
 pub mod bus;
 pub mod endpoints;
 mod packets;

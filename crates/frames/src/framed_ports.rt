@@ -28,9 +28,9 @@ fn most(register: u8) -> usize
 // One frame of bytes to put.
 fn put_piece<W: Wire>(wire: &mut W, register: u8, piece: &[u8])
     requires { (register ≤ 31) × (length piece.now ≤ frame_size register) }
-    ensures after { W.Wire.meaning wire.new ≡ after_puts register piece.now (W.Wire.meaning wire.old) }
-    ensures mode { W.Wire.duplex wire.new ≡ W.Wire.duplex wire.old }
-    ensures sent { W.Wire.heard wire.old (frame_of (puts register piece.now)) wire.new }
+    ensures after { W.meaning wire.new ≡ after_puts register piece.now (W.meaning wire.old) }
+    ensures mode { W.duplex wire.new ≡ W.duplex wire.old }
+    ensures sent { W.heard wire.old (frame_of (puts register piece.now)) wire.new }
 {
     let mut buffer = [0; FRAME_MOST];
     let length = write_put(register, piece, &mut buffer);
@@ -41,10 +41,10 @@ fn put_piece<W: Wire>(wire: &mut W, register: u8, piece: &[u8])
 // One frame of bytes to get.
 fn get_piece<W: Wire>(wire: &mut W, register: u8, piece: &mut [u8])
     requires { (register ≤ 31) × (length piece.old ≤ frame_size register) }
-    ensures bytes { piece.new ≡ gots register (length piece.old) (W.Wire.meaning wire.old) }
-    ensures after { W.Wire.meaning wire.new ≡ after_gets register (length piece.old) (W.Wire.meaning wire.old) }
-    ensures mode { W.Wire.duplex wire.new ≡ W.Wire.duplex wire.old }
-    ensures sent { W.Wire.heard wire.old (frame_of (gets register (length piece.old))) wire.new }
+    ensures bytes { piece.new ≡ gots register (length piece.old) (W.meaning wire.old) }
+    ensures after { W.meaning wire.new ≡ after_gets register (length piece.old) (W.meaning wire.old) }
+    ensures mode { W.duplex wire.new ≡ W.duplex wire.old }
+    ensures sent { W.heard wire.old (frame_of (gets register (length piece.old))) wire.new }
 {
     let mut buffer = [0; FRAME_MOST];
     let length = write_get(register, piece.len(), &mut buffer);
@@ -86,23 +86,23 @@ impl<W: Wire> FramedPort<W> {
 }
 
 impl<W: Wire> Port for FramedPort<W> {
-    ghost meaning = { λ s. W.Wire.meaning s.wire };
+    ghost meaning = { λ s. W.meaning s.wire };
 
     // One byte put to a register, in one frame.
     fn put(&mut self, register: u8, value: u8)
-        ensures after { W.Wire.meaning self.new.wire ≡ after_put register value (W.Wire.meaning self.old.wire) }
-        ensures mode { W.Wire.duplex self.new.wire ≡ W.Wire.duplex self.old.wire }
-        ensures sent { Chain W.Wire.heard (frames_of (puts register (value ∷ []))) self.old.wire self.new.wire }
+        ensures after { W.meaning self.new.wire ≡ after_put register value (W.meaning self.old.wire) }
+        ensures mode { W.duplex self.new.wire ≡ W.duplex self.old.wire }
+        ensures sent { Chain W.heard (frames_of (puts register (value ∷ []))) self.old.wire self.new.wire }
     {
         self.put_many(register, &[value]);
     }
 
     // One byte from a register, in one frame.
     fn get(&mut self, register: u8) -> u8
-        ensures value { result ≡ got register (W.Wire.meaning self.old.wire) }
-        ensures after { W.Wire.meaning self.new.wire ≡ after_get register (W.Wire.meaning self.old.wire) }
-        ensures mode { W.Wire.duplex self.new.wire ≡ W.Wire.duplex self.old.wire }
-        ensures sent { Chain W.Wire.heard (frames_of (gets register 1)) self.old.wire self.new.wire }
+        ensures value { result ≡ got register (W.meaning self.old.wire) }
+        ensures after { W.meaning self.new.wire ≡ after_get register (W.meaning self.old.wire) }
+        ensures mode { W.duplex self.new.wire ≡ W.duplex self.old.wire }
+        ensures sent { Chain W.heard (frames_of (gets register 1)) self.old.wire self.new.wire }
     {
         let mut byte = [0];
         self.get_many(register, &mut byte);
@@ -111,9 +111,9 @@ impl<W: Wire> Port for FramedPort<W> {
 
     // The bytes, put to one register, and the frames that carry them.
     fn put_many(&mut self, register: u8, bytes: &[u8])
-        ensures after { W.Wire.meaning self.new.wire ≡ after_puts register bytes.now (W.Wire.meaning self.old.wire) }
-        ensures mode { W.Wire.duplex self.new.wire ≡ W.Wire.duplex self.old.wire }
-        ensures sent { Chain W.Wire.heard (frames_of (puts register bytes.now)) self.old.wire self.new.wire }
+        ensures after { W.meaning self.new.wire ≡ after_puts register bytes.now (W.meaning self.old.wire) }
+        ensures mode { W.duplex self.new.wire ≡ W.duplex self.old.wire }
+        ensures sent { Chain W.heard (frames_of (puts register bytes.now)) self.old.wire self.new.wire }
     {
         if register > REGISTER_MOST {
             return;
@@ -129,10 +129,10 @@ impl<W: Wire> Port for FramedPort<W> {
 
     // As many bytes as the slice has places, from one register, and the frames that carry them.
     fn get_many(&mut self, register: u8, into: &mut [u8])
-        ensures bytes { into.new ≡ gots register (length into.old) (W.Wire.meaning self.old.wire) }
-        ensures after { W.Wire.meaning self.new.wire ≡ after_gets register (length into.old) (W.Wire.meaning self.old.wire) }
-        ensures mode { W.Wire.duplex self.new.wire ≡ W.Wire.duplex self.old.wire }
-        ensures sent { Chain W.Wire.heard (frames_of (gets register (length into.old))) self.old.wire self.new.wire }
+        ensures bytes { into.new ≡ gots register (length into.old) (W.meaning self.old.wire) }
+        ensures after { W.meaning self.new.wire ≡ after_gets register (length into.old) (W.meaning self.old.wire) }
+        ensures mode { W.duplex self.new.wire ≡ W.duplex self.old.wire }
+        ensures sent { Chain W.heard (frames_of (gets register (length into.old))) self.old.wire self.new.wire }
     {
         if register > REGISTER_MOST {
             into.fill(0);

@@ -9,8 +9,8 @@ use crate::wires::Wire;
 
 // Exchanges bytes over a full duplex wire that is itself made of a framed port over the given wire, and hands that back.
 pub fn exchange_layered<W: Wire>(wire: W, bytes: &mut [u8]) -> W
-    ensures answers { bytes.new ≡ exchanged Full bytes.old (W.Wire.meaning wire) }
-    ensures after { W.Wire.meaning result ≡ after_exchange bytes.old (W.Wire.meaning wire) }
+    ensures answers { bytes.new ≡ exchanged Full bytes.old (W.meaning wire) }
+    ensures after { W.meaning result ≡ after_exchange bytes.old (W.meaning wire) }
 {
     let mut outer = PortWire::full(FramedPort::new(wire));
     outer.exchange(bytes);

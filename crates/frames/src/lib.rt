@@ -1,4 +1,6 @@
 // Register accesses as SPI frames: the format of a frame, wires that exchange frames, a wire over any port and a port over any wire.
+#![tactic(auto)]
+
 mod duplexes;
 mod formats;
 mod framed_ports;

@@ -66,8 +66,8 @@ impl<P: Port> PortWire<P> {
 
 // What answers the command byte.
 fn status<P: Port>(port: &mut P, duplex: Duplex) -> u8
-    ensures value { result ≡ first_answer duplex (meaning port.old) }
-    ensures after { meaning port.new ≡ meaning port.old }
+    ensures value { result ≡ first_answer duplex (P.meaning port.old) }
+    ensures after { P.meaning port.new ≡ P.meaning port.old }
 {
     match duplex {
         Duplex::Half => 0,
@@ -78,7 +78,7 @@ fn status<P: Port>(port: &mut P, duplex: Duplex) -> u8
 fn put_body<P: Port>(port: &mut P, register: u8, body: &mut [u8])
     requires { register ≤ 31 }
     ensures answers { body.new ≡ replicate (length body.old) 0 }
-    ensures after { meaning port.new ≡ after_put_body register body.old (meaning port.old) }
+    ensures after { P.meaning port.new ≡ after_put_body register body.old (P.meaning port.old) }
 {
     let mut at = register;
     for byte in body.iter_mut() {
@@ -90,8 +90,8 @@ fn put_body<P: Port>(port: &mut P, register: u8, body: &mut [u8])
 
 fn get_body<P: Port>(port: &mut P, register: u8, body: &mut [u8])
     requires { register ≤ 31 }
-    ensures answers { body.new ≡ got_body register (length body.old) (meaning port.old) }
-    ensures after { meaning port.new ≡ after_got_body register (length body.old) (meaning port.old) }
+    ensures answers { body.new ≡ got_body register (length body.old) (P.meaning port.old) }
+    ensures after { P.meaning port.new ≡ after_got_body register (length body.old) (P.meaning port.old) }
 {
     let mut at = register;
     for byte in body.iter_mut() {
@@ -102,8 +102,8 @@ fn get_body<P: Port>(port: &mut P, register: u8, body: &mut [u8])
 
 // The data bytes of a frame, at most 64, with the accesses that its command asks for.
 fn access_body<P: Port>(port: &mut P, command: u8, body: &mut [u8])
-    ensures answers { body.new ≡ body_answers command body.old (meaning port.old) }
-    ensures after { meaning port.new ≡ after_body command body.old (meaning port.old) }
+    ensures answers { body.new ≡ body_answers command body.old (P.meaning port.old) }
+    ensures after { P.meaning port.new ≡ after_body command body.old (P.meaning port.old) }
 {
     if is_put(command) {
         put_body(port, command / 8, body);
@@ -113,11 +113,11 @@ fn access_body<P: Port>(port: &mut P, command: u8, body: &mut [u8])
 }
 
 impl<P: Port> Wire for PortWire<P> {
-    ghost meaning = { λ s. P.Port.meaning s.port };
+    ghost meaning = { λ s. P.meaning s.port };
 
     ghost duplex = { λ s. s.duplex };
 
-    ghost heard = { λ s bytes t. Heard s.duplex t.duplex bytes (P.Port.meaning s.port) (P.Port.meaning t.port) };
+    ghost heard = { λ s bytes t. Heard s.duplex t.duplex bytes (P.meaning s.port) (P.meaning t.port) };
 
     fn exchange(&mut self, bytes: &mut [u8]) {
         if bytes.len() == 0 {

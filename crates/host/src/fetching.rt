@@ -111,9 +111,9 @@ impl Intake {
         requires tries { self.old.tries + 1 < 2 ^ 32 }
         requires received { self.old.received ≤ length buffer.old }
         requires long { length buffer.old ≤ 1024 }
-        ensures intake { self.new ≡ (fetch_step address endpoint size limit (fetching self.old buffer.old (meaning port.old))).intake }
-        ensures buffer { buffer.new ≡ (fetch_step address endpoint size limit (fetching self.old buffer.old (meaning port.old))).buffer }
-        ensures after { meaning port.new ≡ (fetch_step address endpoint size limit (fetching self.old buffer.old (meaning port.old))).bus }
+        ensures intake { self.new ≡ (fetch_step address endpoint size limit (fetching self.old buffer.old (P.meaning port.old))).intake }
+        ensures buffer { buffer.new ≡ (fetch_step address endpoint size limit (fetching self.old buffer.old (P.meaning port.old))).buffer }
+        ensures after { P.meaning port.new ≡ (fetch_step address endpoint size limit (fetching self.old buffer.old (P.meaning port.old))).bus }
     {
         let end = (self.received + size as usize).min(buffer.len());
         let room = &mut buffer[self.received..end];
@@ -133,9 +133,9 @@ pub(crate) fn fetch<P: Port>(
     buffer: &mut [u8],
 ) -> Intake
     requires { length buffer.old ≤ 1024 }
-    ensures intake { result ≡ (fetch_run address endpoint size limit toggle buffer.old (meaning port.old)).intake }
-    ensures buffer { buffer.new ≡ (fetch_run address endpoint size limit toggle buffer.old (meaning port.old)).buffer }
-    ensures after { meaning port.new ≡ (fetch_run address endpoint size limit toggle buffer.old (meaning port.old)).bus }
+    ensures intake { result ≡ (fetch_run address endpoint size limit toggle buffer.old (P.meaning port.old)).intake }
+    ensures buffer { buffer.new ≡ (fetch_run address endpoint size limit toggle buffer.old (P.meaning port.old)).buffer }
+    ensures after { P.meaning port.new ≡ (fetch_run address endpoint size limit toggle buffer.old (P.meaning port.old)).bus }
 {
     let mut intake = Intake::new(limit, toggle);
     let budget = buffer.len() as u32 * (limit as u32 + 3);

@@ -72,9 +72,9 @@ impl<P: Port> Host<P> {
         size: u8,
         limit: u8,
     ) -> Answer
-        ensures answer { result ≡ (open_done self.old.table.pipes (meaning self.old.port) number address endpoint direction size limit).answer }
-        ensures table { self.new.table.pipes ≡ (open_done self.old.table.pipes (meaning self.old.port) number address endpoint direction size limit).places }
-        ensures after { meaning self.new.port ≡ (open_done self.old.table.pipes (meaning self.old.port) number address endpoint direction size limit).bus }
+        ensures answer { result ≡ (open_done self.old.table.pipes (P.meaning self.old.port) number address endpoint direction size limit).answer }
+        ensures table { self.new.table.pipes ≡ (open_done self.old.table.pipes (P.meaning self.old.port) number address endpoint direction size limit).places }
+        ensures after { P.meaning self.new.port ≡ (open_done self.old.table.pipes (P.meaning self.old.port) number address endpoint direction size limit).bus }
         ensures same { (why : Why) → open_refusal self.old.table.pipes number address endpoint direction size limit ≡ Some why → self.new ≡ self.old }
     {
         if let Some(refusal) = open_refusal(
@@ -106,9 +106,9 @@ impl<P: Port> Host<P> {
 
     // Sends a message of 1 to 1,024 bytes over an OUT pipe.
     pub fn send(&mut self, number: u8, message: &[u8]) -> Answer
-        ensures answer { result ≡ (send_done self.old.table.pipes (meaning self.old.port) number message.now).answer }
-        ensures table { self.new.table.pipes ≡ (send_done self.old.table.pipes (meaning self.old.port) number message.now).places }
-        ensures after { meaning self.new.port ≡ (send_done self.old.table.pipes (meaning self.old.port) number message.now).bus }
+        ensures answer { result ≡ (send_done self.old.table.pipes (P.meaning self.old.port) number message.now).answer }
+        ensures table { self.new.table.pipes ≡ (send_done self.old.table.pipes (P.meaning self.old.port) number message.now).places }
+        ensures after { P.meaning self.new.port ≡ (send_done self.old.table.pipes (P.meaning self.old.port) number message.now).bus }
         ensures same { (why : Why) → admit_send self.old.table.pipes number (length message.now) ≡ Err why → self.new ≡ self.old }
     {
         match admit_send(&self.table, number, message.len()) {
@@ -120,10 +120,10 @@ impl<P: Port> Host<P> {
     // Receives packets of an IN pipe into a buffer of 1 to 1,024 bytes, a multiple of the packet size, until one is shorter than the
     // packet size or the buffer is full.
     pub fn fetch(&mut self, number: u8, buffer: &mut [u8]) -> Answer
-        ensures answer { result ≡ (fetch_done self.old.table.pipes (meaning self.old.port) number buffer.old).answer }
-        ensures buffer { buffer.new ≡ (fetch_done self.old.table.pipes (meaning self.old.port) number buffer.old).buffer }
-        ensures table { self.new.table.pipes ≡ (fetch_done self.old.table.pipes (meaning self.old.port) number buffer.old).places }
-        ensures after { meaning self.new.port ≡ (fetch_done self.old.table.pipes (meaning self.old.port) number buffer.old).bus }
+        ensures answer { result ≡ (fetch_done self.old.table.pipes (P.meaning self.old.port) number buffer.old).answer }
+        ensures buffer { buffer.new ≡ (fetch_done self.old.table.pipes (P.meaning self.old.port) number buffer.old).buffer }
+        ensures table { self.new.table.pipes ≡ (fetch_done self.old.table.pipes (P.meaning self.old.port) number buffer.old).places }
+        ensures after { P.meaning self.new.port ≡ (fetch_done self.old.table.pipes (P.meaning self.old.port) number buffer.old).bus }
         ensures same { (why : Why) → admit_fetch self.old.table.pipes number (length buffer.old) ≡ Err why → (self.new ≡ self.old) × (buffer.new ≡ buffer.old) }
     {
         match admit_fetch(&self.table, number, buffer.len()) {
@@ -134,9 +134,9 @@ impl<P: Port> Host<P> {
 
     // Clears the endpoint of a doubtful or halted pipe, so that it is in step again.
     pub fn recover(&mut self, number: u8) -> Answer
-        ensures answer { result ≡ (recover_done self.old.table.pipes (meaning self.old.port) number).answer }
-        ensures table { self.new.table.pipes ≡ (recover_done self.old.table.pipes (meaning self.old.port) number).places }
-        ensures after { meaning self.new.port ≡ (recover_done self.old.table.pipes (meaning self.old.port) number).bus }
+        ensures answer { result ≡ (recover_done self.old.table.pipes (P.meaning self.old.port) number).answer }
+        ensures table { self.new.table.pipes ≡ (recover_done self.old.table.pipes (P.meaning self.old.port) number).places }
+        ensures after { P.meaning self.new.port ≡ (recover_done self.old.table.pipes (P.meaning self.old.port) number).bus }
         ensures same { (why : Why) → admit_recover self.old.table.pipes number ≡ Err why → self.new ≡ self.old }
     {
         match admit_recover(&self.table, number) {
@@ -165,8 +165,8 @@ impl<P: Port> Host<P> {
 
     // Makes a pipe absent.
     pub fn close(&mut self, number: u8) -> Answer
-        ensures answer { result ≡ (close_done self.old.table.pipes (meaning self.old.port) number).answer }
-        ensures table { self.new.table.pipes ≡ (close_done self.old.table.pipes (meaning self.old.port) number).places }
+        ensures answer { result ≡ (close_done self.old.table.pipes (P.meaning self.old.port) number).answer }
+        ensures table { self.new.table.pipes ≡ (close_done self.old.table.pipes (P.meaning self.old.port) number).places }
         ensures port { self.new.port ≡ self.old.port }
         ensures same { (why : Why) → present self.old.table.pipes number ≡ Err why → self.new ≡ self.old }
     {
@@ -189,9 +189,9 @@ impl<P: Port> Host<P> {
     // A send over a pipe that takes the message.
     fn send_over(&mut self, number: u8, pipe: Pipe, message: &[u8]) -> Answer
         requires { length message.now ≤ 1024 }
-        ensures answer { result ≡ (send_end self.old.table.pipes (meaning self.old.port) number pipe message.now (send_run pipe message.now (meaning self.old.port))).answer }
-        ensures table { self.new.table.pipes ≡ (send_end self.old.table.pipes (meaning self.old.port) number pipe message.now (send_run pipe message.now (meaning self.old.port))).places }
-        ensures after { meaning self.new.port ≡ (send_end self.old.table.pipes (meaning self.old.port) number pipe message.now (send_run pipe message.now (meaning self.old.port))).bus }
+        ensures answer { result ≡ (send_end self.old.table.pipes (P.meaning self.old.port) number pipe message.now (send_run pipe message.now (P.meaning self.old.port))).answer }
+        ensures table { self.new.table.pipes ≡ (send_end self.old.table.pipes (P.meaning self.old.port) number pipe message.now (send_run pipe message.now (P.meaning self.old.port))).places }
+        ensures after { P.meaning self.new.port ≡ (send_end self.old.table.pipes (P.meaning self.old.port) number pipe message.now (send_run pipe message.now (P.meaning self.old.port))).bus }
     {
         let progress = sending::send(&mut self.port, pipe, message);
         let answer = sending::answer(progress, pipe, message);
@@ -203,10 +203,10 @@ impl<P: Port> Host<P> {
     // A fetch over a pipe that has packets for the buffer.
     fn fetch_over(&mut self, number: u8, pipe: Pipe, buffer: &mut [u8]) -> Answer
         requires { length buffer.old ≤ 1024 }
-        ensures answer { result ≡ (fetch_end self.old.table.pipes (meaning self.old.port) number pipe (fetch_run pipe.address pipe.endpoint pipe.size pipe.limit pipe.toggle buffer.old (meaning self.old.port))).answer }
-        ensures buffer { buffer.new ≡ (fetch_end self.old.table.pipes (meaning self.old.port) number pipe (fetch_run pipe.address pipe.endpoint pipe.size pipe.limit pipe.toggle buffer.old (meaning self.old.port))).buffer }
-        ensures table { self.new.table.pipes ≡ (fetch_end self.old.table.pipes (meaning self.old.port) number pipe (fetch_run pipe.address pipe.endpoint pipe.size pipe.limit pipe.toggle buffer.old (meaning self.old.port))).places }
-        ensures after { meaning self.new.port ≡ (fetch_end self.old.table.pipes (meaning self.old.port) number pipe (fetch_run pipe.address pipe.endpoint pipe.size pipe.limit pipe.toggle buffer.old (meaning self.old.port))).bus }
+        ensures answer { result ≡ (fetch_end self.old.table.pipes (P.meaning self.old.port) number pipe (fetch_run pipe.address pipe.endpoint pipe.size pipe.limit pipe.toggle buffer.old (P.meaning self.old.port))).answer }
+        ensures buffer { buffer.new ≡ (fetch_end self.old.table.pipes (P.meaning self.old.port) number pipe (fetch_run pipe.address pipe.endpoint pipe.size pipe.limit pipe.toggle buffer.old (P.meaning self.old.port))).buffer }
+        ensures table { self.new.table.pipes ≡ (fetch_end self.old.table.pipes (P.meaning self.old.port) number pipe (fetch_run pipe.address pipe.endpoint pipe.size pipe.limit pipe.toggle buffer.old (P.meaning self.old.port))).places }
+        ensures after { P.meaning self.new.port ≡ (fetch_end self.old.table.pipes (P.meaning self.old.port) number pipe (fetch_run pipe.address pipe.endpoint pipe.size pipe.limit pipe.toggle buffer.old (P.meaning self.old.port))).bus }
     {
         let intake = fetching::fetch(
             &mut self.port,
@@ -225,9 +225,9 @@ impl<P: Port> Host<P> {
 
     // A recover of a pipe that is not in step.
     fn recover_pipe(&mut self, number: u8, pipe: Pipe) -> Answer
-        ensures answer { result ≡ (recover_end self.old.table.pipes (meaning self.old.port) number pipe (clear_run pipe.address pipe.endpoint pipe.direction pipe.limit (meaning self.old.port))).answer }
-        ensures table { self.new.table.pipes ≡ (recover_end self.old.table.pipes (meaning self.old.port) number pipe (clear_run pipe.address pipe.endpoint pipe.direction pipe.limit (meaning self.old.port))).places }
-        ensures after { meaning self.new.port ≡ (recover_end self.old.table.pipes (meaning self.old.port) number pipe (clear_run pipe.address pipe.endpoint pipe.direction pipe.limit (meaning self.old.port))).bus }
+        ensures answer { result ≡ (recover_end self.old.table.pipes (P.meaning self.old.port) number pipe (clear_run pipe.address pipe.endpoint pipe.direction pipe.limit (P.meaning self.old.port))).answer }
+        ensures table { self.new.table.pipes ≡ (recover_end self.old.table.pipes (P.meaning self.old.port) number pipe (clear_run pipe.address pipe.endpoint pipe.direction pipe.limit (P.meaning self.old.port))).places }
+        ensures after { P.meaning self.new.port ≡ (recover_end self.old.table.pipes (P.meaning self.old.port) number pipe (clear_run pipe.address pipe.endpoint pipe.direction pipe.limit (P.meaning self.old.port))).bus }
     {
         let clearing = opening::clear(
             &mut self.port,

@@ -1,4 +1,6 @@
 // The host: a pipe table over any port, and the calls open, send, fetch, recover, look and close.
+#![tactic(auto)]
+
 pub mod cases;
 mod fetching;
 mod hosts;

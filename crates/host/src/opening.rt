@@ -119,8 +119,8 @@ impl Clearing {
         limit: u8,
     )
         requires { self.old.tries + 1 < 2 ^ 32 }
-        ensures clearing { self.new ≡ (clear_step address endpoint direction limit (requesting self.old (meaning port.old))).clearing }
-        ensures after { meaning port.new ≡ (clear_step address endpoint direction limit (requesting self.old (meaning port.old))).bus }
+        ensures clearing { self.new ≡ (clear_step address endpoint direction limit (requesting self.old (P.meaning port.old))).clearing }
+        ensures after { P.meaning port.new ≡ (clear_step address endpoint direction limit (requesting self.old (P.meaning port.old))).bus }
     {
         let (code, _) = match self.stage {
             Stage::Setup => try_setup(port, address, &clear_request(endpoint, direction)),
@@ -139,8 +139,8 @@ pub(crate) fn clear<P: Port>(
     direction: Direction,
     limit: u8,
 ) -> Clearing
-    ensures clearing { result ≡ (clear_run address endpoint direction limit (meaning port.old)).clearing }
-    ensures after { meaning port.new ≡ (clear_run address endpoint direction limit (meaning port.old)).bus }
+    ensures clearing { result ≡ (clear_run address endpoint direction limit (P.meaning port.old)).clearing }
+    ensures after { P.meaning port.new ≡ (clear_run address endpoint direction limit (P.meaning port.old)).bus }
 {
     let mut clearing = Clearing::new(limit);
     let budget = 2 * (limit as u32 + 3);

@@ -64,8 +64,8 @@ impl Progress {
     fn step<P: Port>(&mut self, port: &mut P, pipe: Pipe, message: &[u8])
         requires tries { self.old.tries + 1 < 2 ^ 32 }
         requires sent { self.old.sent ≤ length message.now }
-        ensures progress { self.new ≡ (send_step pipe message.now (sending self.old (meaning port.old))).progress }
-        ensures after { meaning port.new ≡ (send_step pipe message.now (sending self.old (meaning port.old))).bus }
+        ensures progress { self.new ≡ (send_step pipe message.now (sending self.old (P.meaning port.old))).progress }
+        ensures after { P.meaning port.new ≡ (send_step pipe message.now (sending self.old (P.meaning port.old))).bus }
     {
         let packet = Packet::cut(&message[self.sent..message.len()], pipe.size as usize);
         let length = packet.bytes().len();
@@ -77,8 +77,8 @@ impl Progress {
 // Sends the message over the pipe, as far as it goes.
 pub(crate) fn send<P: Port>(port: &mut P, pipe: Pipe, message: &[u8]) -> Progress
     requires { length message.now ≤ 1024 }
-    ensures progress { result ≡ (send_run pipe message.now (meaning port.old)).progress }
-    ensures after { meaning port.new ≡ (send_run pipe message.now (meaning port.old)).bus }
+    ensures progress { result ≡ (send_run pipe message.now (P.meaning port.old)).progress }
+    ensures after { P.meaning port.new ≡ (send_run pipe message.now (P.meaning port.old)).bus }
     ensures within { result.sent ≤ length message.now }
 {
     let mut progress = Progress::new(pipe);

@@ -57,11 +57,11 @@ impl<W: Wire> Tap<W> {
 }
 
 impl<W: Wire> Wire for Tap<W> {
-    ghost meaning = { λ s. W.Wire.meaning s.wire };
+    ghost meaning = { λ s. W.meaning s.wire };
 
-    ghost duplex = { λ s. W.Wire.duplex s.wire };
+    ghost duplex = { λ s. W.duplex s.wire };
 
-    ghost heard = { λ s bytes t. W.Wire.heard s.wire bytes t.wire };
+    ghost heard = { λ s bytes t. W.heard s.wire bytes t.wire };
 
     fn exchange(&mut self, bytes: &mut [u8]) {
         let sent = copied(self.heap, bytes);

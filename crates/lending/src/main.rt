@@ -1,5 +1,7 @@
 // The kiosk on a bench chip: an atlas comes back, its label is read from the tag pad, and it is lent again, over a cable that loses
 // acknowledgements; the same over a framed port; and the frames of one packet. Prints what happened, for a person.
+#![tactic(auto)]
+
 mod analysis;
 mod benches;
 mod comparing;

@@ -1,4 +1,6 @@
 // The parts of a bench chip, in memory: buffers of a fixed size, the chip record, and the queue of the fates to come.
+#![tactic(auto)]
+
 pub mod inboxes;
 pub mod queues;
 pub mod records;

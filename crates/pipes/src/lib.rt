@@ -1,5 +1,7 @@
 // Pipes: the table of eight, their standings, the counting rule of their tries, the checks of the calls, and the answers. Everything of the
 // host that no port takes part in.
+#![tactic(auto)]
+
 mod answers;
 mod checks;
 mod counting;

@@ -1,5 +1,7 @@
 // Runs scripts, each of which describes a bus with its faults and what is done on it, and prints what came of it. The scripts are
 // the files named as arguments, each on a bus of its own; with no arguments it is standard input.
+#![tactic(auto)]
+
 mod buses;
 mod calling;
 mod commands;

@@ -1,4 +1,6 @@
 // What a port to the USB host chip is: its four register accesses and what they mean, and the words that both need.
+#![tactic(auto)]
+
 pub mod accesses;
 pub mod directions;
 pub mod fates;

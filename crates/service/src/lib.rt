@@ -1,4 +1,6 @@
 // Lists of calls: a host serves them all, in order, and what is promised of every such list.
+#![tactic(auto)]
+
 mod calls;
 pub mod cases;
 pub mod laws;

@@ -11,9 +11,9 @@ use std::alloc::{AllocError, Global};
 
 // Makes one call.
 fn make<P: Port>(host: &mut Host<P>, call: Call) -> Outcome
-    ensures reply { replied result ≡ (step (state host.old.table.pipes (meaning host.old.port)) (asked call)).reply }
-    ensures table { host.new.table.pipes ≡ (step (state host.old.table.pipes (meaning host.old.port)) (asked call)).state.places }
-    ensures after { meaning host.new.port ≡ (step (state host.old.table.pipes (meaning host.old.port)) (asked call)).state.bus }
+    ensures reply { replied result ≡ (step (state host.old.table.pipes (P.meaning host.old.port)) (asked call)).reply }
+    ensures table { host.new.table.pipes ≡ (step (state host.old.table.pipes (P.meaning host.old.port)) (asked call)).state.places }
+    ensures after { P.meaning host.new.port ≡ (step (state host.old.table.pipes (P.meaning host.old.port)) (asked call)).state.bus }
 {
     match call {
         Call::Open {
@@ -38,11 +38,11 @@ fn make<P: Port>(host: &mut Host<P>, call: Call) -> Outcome
 // Makes one call, and keeps what came of it behind what came of the calls before.
 fn serve_next<P: Port>(host: &mut Host<P>, call: Call, outcomes: &mut Vec<Outcome>)
     requires { vec_len outcomes.old < vec_capacity outcomes.old }
-    ensures reply { map replied outcomes.new.items ≡ map replied outcomes.old.items ++ (step (state host.old.table.pipes (meaning host.old.port)) (asked call)).reply ∷ [] }
+    ensures reply { map replied outcomes.new.items ≡ map replied outcomes.old.items ++ (step (state host.old.table.pipes (P.meaning host.old.port)) (asked call)).reply ∷ [] }
     ensures len { vec_len outcomes.new ≡ vec_len outcomes.old + 1 }
     ensures capacity { vec_capacity outcomes.new ≡ vec_capacity outcomes.old }
-    ensures table { host.new.table.pipes ≡ (step (state host.old.table.pipes (meaning host.old.port)) (asked call)).state.places }
-    ensures after { meaning host.new.port ≡ (step (state host.old.table.pipes (meaning host.old.port)) (asked call)).state.bus }
+    ensures table { host.new.table.pipes ≡ (step (state host.old.table.pipes (P.meaning host.old.port)) (asked call)).state.places }
+    ensures after { P.meaning host.new.port ≡ (step (state host.old.table.pipes (P.meaning host.old.port)) (asked call)).state.bus }
 {
     let outcome = make(host, call);
     outcomes.push_reserved(outcome);
@@ -57,7 +57,7 @@ pub fn serve_into<P: Port>(
     outcomes: &mut Vec<Outcome>,
 ) -> bool
     ensures room { result ≡ nat_le (vec_len calls) (vec_capacity outcomes.old - vec_len outcomes.old) }
-    ensures served { result ≡ true → ServedBehind (map replied outcomes.old.items) (state host.old.table.pipes (meaning host.old.port)) (map asked calls.items) (map replied outcomes.new.items) (state host.new.table.pipes (meaning host.new.port)) }
+    ensures served { result ≡ true → ServedBehind (map replied outcomes.old.items) (state host.old.table.pipes (P.meaning host.old.port)) (map asked calls.items) (map replied outcomes.new.items) (state host.new.table.pipes (P.meaning host.new.port)) }
     ensures same { result ≡ false → (host.new ≡ host.old) × (outcomes.new ≡ outcomes.old) }
 {
     if calls.len() > outcomes.capacity() - outcomes.len() {
@@ -78,9 +78,9 @@ pub fn serve<P: Port>(
     heap: Global,
     calls: Vec<Call>,
 ) -> Result<Vec<Outcome>, AllocError>
-    ensures served { MatchResult result (λ outcomes. Served (state host.old.table.pipes (meaning host.old.port)) (map asked calls.items) (map replied outcomes.items) (state host.new.table.pipes (meaning host.new.port))) (λ _. host.new ≡ host.old) }
-    ensures promise { IfOk result (λ outcomes. Promised (state host.old.table.pipes (meaning host.old.port)) (map asked calls.items) (map replied outcomes.items)) }
-    ensures onward { IfOk result (λ outcomes. PromisedOnward (state host.old.table.pipes (meaning host.old.port)) (map asked calls.items) (map replied outcomes.items)) }
+    ensures served { MatchResult result (λ outcomes. Served (state host.old.table.pipes (P.meaning host.old.port)) (map asked calls.items) (map replied outcomes.items) (state host.new.table.pipes (P.meaning host.new.port))) (λ _. host.new ≡ host.old) }
+    ensures promise { IfOk result (λ outcomes. Promised (state host.old.table.pipes (P.meaning host.old.port)) (map asked calls.items) (map replied outcomes.items)) }
+    ensures onward { IfOk result (λ outcomes. PromisedOnward (state host.old.table.pipes (P.meaning host.old.port)) (map asked calls.items) (map replied outcomes.items)) }
 {
     let mut outcomes = Vec::with_capacity(heap, calls.len())?;
     let _ = serve_into(host, calls, &mut outcomes);

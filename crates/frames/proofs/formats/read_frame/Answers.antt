@@ -3,4 +3,4 @@ use Rattle.frames.proofs.Writing.{body_part, read_some}
 use Rattle.frames.proofs.formats.read_frame.Goals as goal
 
 pub returns : goal.returns
-returns c = read_some c.args.bytes.now _ _ (omega arith) (body_part c.args.bytes.now c.min-end.result c.min-end.ensures) c.read-parts.ensures
+returns c = read_some c.args.bytes.now _ _ (omega arith) (body_part c.args.bytes.now c.min-end.result c.min-end.ensures) c.read_parts.ensures

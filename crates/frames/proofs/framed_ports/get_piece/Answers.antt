@@ -13,12 +13,12 @@ copy-from-slice-requires g c =
 
 pub returns : goal.returns
 returns g c =
-    let frame : take (c.write-get-length.result - 0) c.write-get-length.new.buffer ≡ frame_of (gets c.args.register (length c.args.piece.now)) =
-    frame_sent (gets c.args.register (length c.args.piece.now)) (replicate 65 0) c.write-get-length.result _ refl c.requires.0 (small_frame c.args.register (length c.args.piece.now) c.requires.1) c.write-get-length.ensures.length c.write-get-length.ensures.bytes in
+    let frame : take (c.write_get-length.result - 0) c.write_get-length.new.buffer ≡ frame_of (gets c.args.register (length c.args.piece.now)) =
+    frame_sent (gets c.args.register (length c.args.piece.now)) (replicate 65 0) c.write_get-length.result _ refl c.requires.0 (small_frame c.args.register (length c.args.piece.now) c.requires.1) c.write_get-length.ensures.length c.write_get-length.ensures.bytes in
     record {
       bytes =
-          c.copy-from-slice.ensures.after
-          ∙ got_part c.args.register (g.W.Wire.duplex c.args.wire.now) (length c.args.piece.now) (g.W.Wire.meaning c.args.wire.now) c.write-get-length.result _ _ c.requires.0 c.requires.1 c.write-get-length.ensures.length c.write-get-length.ensures.bytes c.exchange.ensures.answers;
+          c.copy_from_slice.ensures.after
+          ∙ got_part c.args.register (g.W.Wire.duplex c.args.wire.now) (length c.args.piece.now) (g.W.Wire.meaning c.args.wire.now) c.write_get-length.result _ _ c.requires.0 c.requires.1 c.write_get-length.ensures.length c.write_get-length.ensures.bytes c.exchange.ensures.answers;
       after =
           c.exchange.ensures.after
           ∙ ap (λ (f : List ℕ). after_exchange f (g.W.Wire.meaning c.args.wire.now)) frame

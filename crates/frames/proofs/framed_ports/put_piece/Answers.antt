@@ -8,8 +8,8 @@ use Rattle.frames.proofs.framed_ports.put_piece.Goals as goal
 
 pub returns : goal.returns
 returns g c =
-    let frame : take (c.write-put-length.result - 0) c.write-put-length.new.buffer ≡ frame_of (puts c.args.register c.args.piece.now) =
-    frame_sent (puts c.args.register c.args.piece.now) (replicate 65 0) c.write-put-length.result _ refl c.requires.0 (small_frame c.args.register (length c.args.piece.now) c.requires.1) c.write-put-length.ensures.length c.write-put-length.ensures.bytes in
+    let frame : take (c.write_put-length.result - 0) c.write_put-length.new.buffer ≡ frame_of (puts c.args.register c.args.piece.now) =
+    frame_sent (puts c.args.register c.args.piece.now) (replicate 65 0) c.write_put-length.result _ refl c.requires.0 (small_frame c.args.register (length c.args.piece.now) c.requires.1) c.write_put-length.ensures.length c.write_put-length.ensures.bytes in
     record {
       after =
           c.exchange.ensures.after

@@ -23,18 +23,18 @@ loop-done-preserved g c =
     let into : List ℕ = c.loop-done.into in
     let i : ℕ = c.loop-done.done in
     let n : ℕ = c.min-count.result in
-    let part : List ℕ = c.get-piece.new.piece in
+    let part : List ℕ = c.get_piece.new.piece in
     let count : n ≡ min (frame_size r) (length into - i) = c.min-count.ensures ∙ ap (λ k. min k (length into - i)) c.most-size.ensures in
     let some : i < length into = omega arith in
     let within : i + n ≤ length into = omega arith in
     let l : length (take (i + n - i) (drop i into)) ≡ n = part_length i n into within in
-    let size : length part ≡ n = ap length c.get-piece.ensures.bytes ∙ gots_length r _ _ ∙ l in
+    let size : length part ≡ n = ap length c.get_piece.ensures.bytes ∙ gots_length r _ _ ∙ l in
     let kept : length (put_mid i (i + n - i) into part) ≡ length into = length_written i (i + n - i) into part (omega arith) (omega arith) in (
       omega arith,
-      gets_after r (length into) _ i n _ _ _ _ within kept l c.get-piece.ensures.after c.loop-done.invariant.1,
-      gots_after r into part _ i n _ _ _ _ within kept l size c.get-piece.ensures.bytes c.get-piece.ensures.after c.loop-done.invariant.2,
-      λ last chain. c.loop-done.invariant.3 last (gets_chain g.W.Wire.heard (get_command r) (frame_size r) (some_fit r) (length into) _ i n _ _ _ last some count l kept c.get-piece.ensures.sent chain),
-      c.get-piece.ensures.mode ∙ c.loop-done.invariant.4,
+      gets_after r (length into) _ i n _ _ _ _ within kept l c.get_piece.ensures.after c.loop-done.invariant.1,
+      gots_after r into part _ i n _ _ _ _ within kept l size c.get_piece.ensures.bytes c.get_piece.ensures.after c.loop-done.invariant.2,
+      λ last chain. c.loop-done.invariant.3 last (gets_chain g.W.Wire.heard (get_command r) (frame_size r) (some_fit r) (length into) _ i n _ _ _ last some count l kept c.get_piece.ensures.sent chain),
+      c.get_piece.ensures.mode ∙ c.loop-done.invariant.4,
     )
 
 pub returns : goal.returns

@@ -17,9 +17,9 @@ pub loop-done-preserved : goal.loop-done-preserved
 loop-done-preserved g c =
     let count : c.min-count.result ≡ min (frame_size c.args.register) (length c.args.bytes.now - c.loop-done.done) = c.min-count.ensures ∙ ap (λ k. min k (length c.args.bytes.now - c.loop-done.done)) c.most-size.ensures in (
       omega arith,
-      puts_after c.args.register c.args.bytes.now c.loop-done.done c.min-count.result _ _ _ c.put-piece.ensures.after c.loop-done.invariant.1,
-      λ last chain. c.loop-done.invariant.2 last (puts_chain g.W.Wire.heard (put_command c.args.register) (frame_size c.args.register) (some_fit c.args.register) c.args.bytes.now c.loop-done.done c.min-count.result _ _ last (omega arith) count c.put-piece.ensures.sent chain),
-      c.put-piece.ensures.mode ∙ c.loop-done.invariant.3,
+      puts_after c.args.register c.args.bytes.now c.loop-done.done c.min-count.result _ _ _ c.put_piece.ensures.after c.loop-done.invariant.1,
+      λ last chain. c.loop-done.invariant.2 last (puts_chain g.W.Wire.heard (put_command c.args.register) (frame_size c.args.register) (some_fit c.args.register) c.args.bytes.now c.loop-done.done c.min-count.result _ _ last (omega arith) count c.put_piece.ensures.sent chain),
+      c.put_piece.ensures.mode ∙ c.loop-done.invariant.3,
     )
 
 pub returns : goal.returns
