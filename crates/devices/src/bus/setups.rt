@@ -61,7 +61,7 @@ impl Devices {
     fn push_endpoint(&mut self, plan: EndpointPlan) -> Result<(), AllocError>
         ensures { MatchResult result (λ _. devices_of self.new ≡ more_endpoints (planned plan) (devices_of self.old)) (λ _. devices_of self.new ≡ devices_of self.old) }
     {
-        let endpoint = DeviceEndpoint::new(self.endpoints.allocator(), plan)?;
+        let endpoint = DeviceEndpoint::new(*self.endpoints.allocator(), plan)?;
         self.endpoints.push(endpoint)?;
         Ok(())
     }

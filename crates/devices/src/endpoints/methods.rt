@@ -36,7 +36,7 @@ impl DeviceEndpoint {
         requires { length bytes.now ≤ 64 }
         ensures { MatchResult result (λ _. endpoint_of self.new ≡ more_waiting bytes.now (endpoint_of self.old)) (λ _. endpoint_of self.new ≡ endpoint_of self.old) }
     {
-        let packet = Packet::new(self.waiting.allocator(), bytes)?;
+        let packet = Packet::new(*self.waiting.allocator(), bytes)?;
         self.waiting.push_back(packet)?;
         Ok(())
     }

@@ -6,9 +6,9 @@ use Rattle.frames.proofs.Commands.{frame_sent}
 use Rattle.frames.proofs.Carrying.{get_carries, small_frame, got_part, gots_length}
 use Rattle.frames.proofs.framed_ports.get_piece.Goals as goal
 
-pub copy-from-slice-requires : goal.copy-from-slice-requires
-copy-from-slice-requires g c =
-    sym (ap length (got_part c.args.register (g.W.Wire.duplex c.args.wire.now) (length c.args.piece.now) (g.W.Wire.meaning c.args.wire.now) c.write-get-length.result _ _ c.requires.0 c.requires.1 c.write-get-length.ensures.length c.write-get-length.ensures.bytes c.exchange.ensures.answers)
+pub copy_from_slice-requires : goal.copy_from_slice-requires
+copy_from_slice-requires g c =
+    sym (ap length (got_part c.args.register (g.W.Wire.duplex c.args.wire.now) (length c.args.piece.now) (g.W.Wire.meaning c.args.wire.now) c.write_get-length.result _ _ c.requires.0 c.requires.1 c.write_get-length.ensures.length c.write_get-length.ensures.bytes c.exchange.ensures.answers)
     ∙ gots_length c.args.register (length c.args.piece.now) (g.W.Wire.meaning c.args.wire.now))
 
 pub returns : goal.returns

@@ -17,8 +17,8 @@ loop-call-init g c =
       tt,
     )
 
-pub serve-next-requires : goal.serve-next-requires
-serve-next-requires g c = omega (arith, c.loop-call.invariant.1, c.in-Some.ensures.steps.1)
+pub serve_next-requires : goal.serve_next-requires
+serve_next-requires g c = omega (arith, c.loop-call.invariant.1, c.in-Some.ensures.steps.1)
 
 pub loop-call-preserved : goal.loop-call-preserved
 loop-call-preserved g c =
@@ -27,10 +27,10 @@ loop-call-preserved g c =
       so_far_more _ s _ _ (map replied (vec_items c.loop-call.outcomes)) _ (asked c.in-Some.call) _ _ _ _
           (ap (map asked) steps.0)
           refl
-          (λ i. state (c.serve-next.ensures.table i) (c.serve-next.ensures.after i))
-          c.serve-next.ensures.reply
+          (λ i. state (c.serve_next.ensures.table i) (c.serve_next.ensures.after i))
+          c.serve_next.ensures.reply
           c.loop-call.invariant.0,
-      omega (arith, c.loop-call.invariant.1, steps.1, c.serve-next.ensures.len, c.serve-next.ensures.capacity),
+      omega (arith, c.loop-call.invariant.1, steps.1, c.serve_next.ensures.len, c.serve_next.ensures.capacity),
       tt,
       tt,
     )

@@ -6,4 +6,4 @@ use Rattle.bench.proofs.chips.BenchChip.refuse.Goals as goal
 
 pub returns : goal.returns
 unfolding refused
-returns c = ap (with_chip (bus_of c.args.self.now)) c.end-plain.ensures
+returns c = ap (with_chip (bus_of c.args.self.now)) c.end_plain.ensures

@@ -6,7 +6,7 @@ use Rattle.devices.proofs.bus.Devices.clear.Goals as goal
 
 pub returns-then-i-len : goal.returns-then-i-len
 returns-then-i-len c =
-    let e = c.place-i.ensures ∙ ap (λ d. place c.args.address (c.args.ee % 16) d (endpoints_of c.args.self.now)) c.named-direction.ensures in
+    let e = c.place-i.ensures ∙ ap (λ d. place c.args.address (c.args.ee % 16) d (endpoints_of c.args.self.now)) c.named_direction.ensures in
     record {
       found = not_among c.args.self.now c.place-i.result _ e (omega (arith, c.len.ensures));
       after = none_cleared c.args.self.now c.place-i.result _ e (omega (arith, c.len.ensures));
@@ -14,7 +14,7 @@ returns-then-i-len c =
 
 pub returns : goal.returns
 returns c =
-    let e = c.place-i.ensures ∙ ap (λ d. place c.args.address (c.args.ee % 16) d (endpoints_of c.args.self.now)) c.named-direction.ensures in
+    let e = c.place-i.ensures ∙ ap (λ d. place c.args.address (c.args.ee % 16) d (endpoints_of c.args.self.now)) c.named_direction.ensures in
     record {
       found = found_among c.args.self.now c.place-i.result _ e (omega (arith, c.len.ensures));
       after =

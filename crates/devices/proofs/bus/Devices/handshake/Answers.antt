@@ -11,4 +11,4 @@ returns-then-not-lives c =
 pub returns : goal.returns
 returns c =
     let there = at_living c.args.address _ (devices_of c.args.self.now) c.if-not-lives.ensures in
-    record { code = c.answer-handshake.ensures ∙ sym (ap (λ o. o.code) there); same = sym (ap (λ o. o.devices) there) }
+    record { code = c.answer_handshake.ensures ∙ sym (ap (λ o. o.code) there); same = sym (ap (λ o. o.devices) there) }

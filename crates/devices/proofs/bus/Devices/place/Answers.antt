@@ -2,11 +2,11 @@ use Rattle.std.proofs.Common.{◌∙◌, arith}
 use Rattle.devices.proofs.Rows.{row_here, row_more, row_all}
 use Rattle.devices.proofs.bus.Devices.place.Goals as goal
 
-pub returns-then-stands-at : goal.returns-then-stands-at
-returns-then-stands-at c = row_here _ _ c.deref-endpoint-items.ensures.value _ _ _ _ _ c.loop-i.invariant _ c.loop-i-test.true c.endpoint-item.is c.if-stands-at.ensures
+pub returns-then-stands_at : goal.returns-then-stands_at
+returns-then-stands_at c = row_here _ _ c.deref-endpoint-items.ensures.value _ _ _ _ _ c.loop-i.invariant _ c.loop-i-test.true c.endpoint-item.is c.if-stands_at.ensures
 
 pub loop-i-preserved : goal.loop-i-preserved
-loop-i-preserved c = row_more _ _ c.deref-endpoint-items.ensures.value _ _ _ _ _ c.loop-i.invariant _ c.loop-i-test.true c.endpoint-item.is c.if-stands-at.ensures
+loop-i-preserved c = row_more _ _ c.deref-endpoint-items.ensures.value _ _ _ _ _ c.loop-i.invariant _ c.loop-i-test.true c.endpoint-item.is c.if-stands_at.ensures
 
 pub returns : goal.returns
 returns c =

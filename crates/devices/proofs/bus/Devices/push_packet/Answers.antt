@@ -7,11 +7,11 @@ index-mut-requires c =
     subst (λ i. i < vec_len c.args.self.now.endpoints) (sym c.place-i.ensures)
     (packet_parts c.args.address c.args.number c.args.bytes.now c.args.self.now c.requires).1
 
-pub add-packet-requires : goal.add-packet-requires
-add-packet-requires c = (packet_parts c.args.address c.args.number c.args.bytes.now c.args.self.now c.requires).0
+pub add_packet-requires : goal.add_packet-requires
+add_packet-requires c = (packet_parts c.args.address c.args.number c.args.bytes.now c.args.self.now c.requires).0
 
 pub returns : goal.returns
 returns c =
-    packet_added c.args.self.now c.place-i.result _ c.place-i.ensures c.add-packet.result c.index-mut.result.now c.add-packet.new.self c.args.bytes.now
+    packet_added c.args.self.now c.place-i.result _ c.place-i.ensures c.add_packet.result c.index-mut.result.now c.add_packet.new.self c.args.bytes.now
     (subst (λ i. i < vec_len c.args.self.now.endpoints) (sym c.place-i.ensures) (packet_parts c.args.address c.args.number c.args.bytes.now c.args.self.now c.requires).1)
-    c.index-mut.ensures.value c.add-packet.ensures
+    c.index-mut.ensures.value c.add_packet.ensures

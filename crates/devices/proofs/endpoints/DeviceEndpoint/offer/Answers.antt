@@ -19,5 +19,5 @@ returns c =
     let tested : ltb 0 (length (deque_items c.args.self.now.waiting)) ≡ true = sym ((ltb_from_iff c.in-Some.ensures.variant) ∙ ap (ltb 0) c.args.self.now.waiting.ok.0) in
     record {
       code = one_waits c.args.toggle (endpoint_of c.args.self.now) c.if-self.false true (some_wait _ _ tested) c.if-not-agrees.ensures;
-      bytes = c.fill.ensures ∙ received_whole _ c.as-slice.ensures.small ∙ c.as-slice.ensures.bytes ∙ first_waits _ _ tested c.in-Some.ensures.lookup;
+      bytes = c.fill.ensures ∙ received_whole _ c.as_slice.ensures.small ∙ c.as_slice.ensures.bytes ∙ first_waits _ _ tested c.in-Some.ensures.lookup;
     }

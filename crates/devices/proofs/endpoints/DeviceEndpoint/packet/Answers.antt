@@ -7,7 +7,7 @@ pub returns-in-Some : goal.returns-in-Some
 returns-in-Some c =
     let tested = sym ((ltb_from_iff c.in-Some.ensures.variant) ∙ ap (ltb c.args.place) c.args.self.now.waiting.ok.0) in
     let at = packet_at (deque_items c.args.self.now.waiting) c.args.place _ tested c.in-Some.ensures.lookup in
-    (at.0, c.as-slice.ensures.bytes ∙ at.1)
+    (at.0, c.as_slice.ensures.bytes ∙ at.1)
 
 pub returns-in-None : goal.returns-in-None
 returns-in-None c =

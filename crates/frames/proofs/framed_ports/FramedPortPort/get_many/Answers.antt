@@ -9,8 +9,8 @@ use Rattle.frames.proofs.Carrying.{gots_length}
 use Rattle.frames.proofs.Cutting.{some_fit, gets_chain, gets_chain_end, gets_after, gots_after, part_length, length_written, all_sent, none_sent}
 use Rattle.frames.proofs.framed_ports.FramedPortPort.get_many.Goals as goal
 
-pub returns-then-register-gt-REGISTER-MOST : goal.returns-then-register-gt-REGISTER-MOST
-returns-then-register-gt-REGISTER-MOST g c = record {
+pub returns-then-register-gt-REGISTER_MOST : goal.returns-then-register-gt-REGISTER_MOST
+returns-then-register-gt-REGISTER_MOST g c = record {
   bytes = c.fill.ensures.after (λ y e. e) ∙ sym (gots_above c.args.register (omega arith) (length c.args.into.now) _);
   after = sym (gets_above c.args.register (omega arith) (length c.args.into.now) _);
   mode = refl;

@@ -6,8 +6,8 @@ use Rattle.frames.proofs.Above.{puts_above}
 use Rattle.frames.proofs.Cutting.{some_fit, puts_chain, puts_chain_end, puts_after, puts_after_end, all_sent, none_sent}
 use Rattle.frames.proofs.framed_ports.FramedPortPort.put_many.Goals as goal
 
-pub returns-then-register-gt-REGISTER-MOST : goal.returns-then-register-gt-REGISTER-MOST
-returns-then-register-gt-REGISTER-MOST g c = record {
+pub returns-then-register-gt-REGISTER_MOST : goal.returns-then-register-gt-REGISTER_MOST
+returns-then-register-gt-REGISTER_MOST g c = record {
   after = sym (puts_above c.args.register (omega arith) c.args.bytes.now _);
   mode = refl;
   sent = none_sent g.W.Wire.heard (puts c.args.register c.args.bytes.now) c.args.self.now.wire (omega arith);

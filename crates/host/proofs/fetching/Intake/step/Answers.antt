@@ -11,7 +11,7 @@ returns g c =
     let buffer = c.args.buffer.now in
     let b = g.P.Port.meaning c.args.port.now in
     record {
-      intake = step_intake a e size limit q buffer b c.min-end.result c.min-end.ensures c.requires.received c.note.new.self c.try-in-code.result.0 c.try-in-code.result.1 c.try-in-code.ensures.answer c.try-in-code.ensures.arrival c.note.ensures;
-      buffer = step_buffer a e size limit q buffer b c.min-end.result c.min-end.ensures c.requires.received c.try-in-code.new.room c.try-in-code.ensures.bytes;
-      after = step_after a e size limit q buffer b c.min-end.result c.min-end.ensures c.requires.received (g.P.Port.meaning c.try-in-code.new.port) c.try-in-code.ensures.after;
+      intake = step_intake a e size limit q buffer b c.min-end.result c.min-end.ensures c.requires.received c.note.new.self c.try_in-code.result.0 c.try_in-code.result.1 c.try_in-code.ensures.answer c.try_in-code.ensures.arrival c.note.ensures;
+      buffer = step_buffer a e size limit q buffer b c.min-end.result c.min-end.ensures c.requires.received c.try_in-code.new.room c.try_in-code.ensures.bytes;
+      after = step_after a e size limit q buffer b c.min-end.result c.min-end.ensures c.requires.received (g.P.Port.meaning c.try_in-code.new.port) c.try_in-code.ensures.after;
     }

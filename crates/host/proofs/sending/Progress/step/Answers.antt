@@ -13,7 +13,7 @@ returns g c =
     let is : c.cut-packet.result.bytes.now ≡ send_packet p message q = c.cut-packet.ensures ∙ ap (take (min p.size 64)) (take_rest message q.sent) in
     record {
       progress =
-          step_progress p message q b c.cut-packet.result.bytes.now is c.note.new.self (length c.bytes-length.result.now) c.try-out-code.result
-          (ap length c.bytes-length.ensures.value) c.try-out-code.ensures.answer c.note.ensures;
-      after = step_bus p message q b c.cut-packet.result.bytes.now is (g.P.Port.meaning c.try-out-code.new.port) c.try-out-code.ensures.after;
+          step_progress p message q b c.cut-packet.result.bytes.now is c.note.new.self (length c.bytes-length.result.now) c.try_out-code.result
+          (ap length c.bytes-length.ensures.value) c.try_out-code.ensures.answer c.note.ensures;
+      after = step_bus p message q b c.cut-packet.result.bytes.now is (g.P.Port.meaning c.try_out-code.new.port) c.try_out-code.ensures.after;
     }
