@@ -11,8 +11,8 @@ returns g c =
     let s = state c.serve_into.new.host.table.pipes (g.P.Port.meaning c.serve_into.new.host.port) in
     let asks = map asked (vec_items c.args.calls) in
     let given = map replied (vec_items c.serve_into.new.outcomes) in
-    let outcomes = c.in-ok-outcomes.outcomes in
-    let made = c.in-ok-outcomes.ensures in
+    let outcomes = c.in_ok-outcomes.outcomes in
+    let made = c.in_ok-outcomes.ensures in
     let fits : c.serve_into.result ≡ true = c.serve_into.ensures.room ∙ le-leb (vec_len c.args.calls) (vec_capacity outcomes - vec_len outcomes) (omega (arith, made.len, made.capacity, c.len.ensures)) in
     let served : Served start asks given s = subst (λ l. ServedBehind (map replied l) start asks given s) made.items (c.serve_into.ensures.served fits) in
     record { served = served; promise = promised start asks given served.replies_are; onward = promised_onward start asks given served.replies_are }

@@ -10,9 +10,9 @@ use Rattle.service.proofs.serving.serve_into.Goals as goal
 pub loop-call-init : goal.loop-call-init
 loop-call-init g c =
     let s = state c.args.host.now.table.pipes (g.P.Port.meaning c.args.host.now.port) in
-    let all = map asked (into_iter_items c.into-iter-call-iterator.result) in (
+    let all = map asked (into_iter_items c.into_iter-call-iterator.result) in (
       so_far_none (map replied (vec_items c.args.outcomes.now)) s all,
-      omega (arith, c.if-len-capacity.false, c.len.ensures, c.len-2.ensures, c.capacity.ensures, c.args.outcomes.now.ok.1, c.into-iter-call-iterator.ensures.into-iter-gives.1),
+      omega (arith, c.if-len-capacity.false, c.len.ensures, c.len-2.ensures, c.capacity.ensures, c.args.outcomes.now.ok.1, c.into_iter-call-iterator.ensures.into_iter_gives.1),
       tt,
       tt,
     )
@@ -42,7 +42,7 @@ returns g c =
     let before = map replied (vec_items c.args.outcomes.now) in
     let items = into_iter_items c.loop-call.call-iterator in
     let none : items ≡ [] = nil_from_length items (omega (arith, c.loop-call.call-iterator.rest.ok.0, c.in-None.ensures.steps.0)) in
-    let all : map asked (into_iter_items c.into-iter-call-iterator.result) ≡ map asked (vec_items c.args.calls) = ap (map asked) c.into-iter-call-iterator.ensures.into-iter-gives.0 in
+    let all : map asked (into_iter_items c.into_iter-call-iterator.result) ≡ map asked (vec_items c.args.calls) = ap (map asked) c.into_iter-call-iterator.ensures.into_iter_gives.0 in
     let given = map replied (vec_items c.loop-call.outcomes) in
     record {
       room = sym (le-leb (vec_len c.args.calls) (vec_capacity c.args.outcomes.now - vec_len c.args.outcomes.now) (omega (arith, c.if-len-capacity.false, c.len.ensures, c.len-2.ensures, c.capacity.ensures)));

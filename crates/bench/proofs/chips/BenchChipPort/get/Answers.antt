@@ -22,6 +22,6 @@ pub returns-in-31 : goal.returns-in-31
 unfolding got after_get
 returns-in-31 c = search rules
 
-pub returns-in-default : goal.returns-in-default
+pub returns-in_default : goal.returns-in_default
 unfolding got after_get
-returns-in-default c = search rules
+returns-in_default c = search rules

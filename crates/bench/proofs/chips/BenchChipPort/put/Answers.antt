@@ -30,6 +30,6 @@ pub returns-in-30 : goal.returns-in-30
 unfolding after_put
 returns-in-30 c = search rules
 
-pub returns-in-default : goal.returns-in-default
+pub returns-in_default : goal.returns-in_default
 unfolding after_put
-returns-in-default c = search rules
+returns-in_default c = search rules

@@ -18,6 +18,6 @@ returns c =
     record {
       found = found_among c.args.self.now c.place-i.result _ e (omega (arith, c.len.ensures));
       after =
-          one_cleared c.args.self.now c.place-i.result _ e c.index-mut.result.now c.clear.new.self (omega (arith, c.len.ensures))
-          c.index-mut.ensures.value c.clear.ensures;
+          one_cleared c.args.self.now c.place-i.result _ e c.index_mut.result.now c.clear.new.self (omega (arith, c.len.ensures))
+          c.index_mut.ensures.value c.clear.ensures;
     }

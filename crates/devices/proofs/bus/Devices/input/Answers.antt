@@ -14,7 +14,7 @@ returns-then-i-len c =
 pub returns : goal.returns
 returns c =
     let there = found_at c.args.self.now c.place-i.result _ c.place-i.ensures (in_at c.args.fate c.args.toggle) (omega (arith, c.len.ensures)) in
-    let is = met_at c.args.self.now c.place-i.result _ c.place-i.ensures c.index-mut.result.now (omega (arith, c.len.ensures)) c.index-mut.ensures.value in
+    let is = met_at c.args.self.now c.place-i.result _ c.place-i.ensures c.index_mut.result.now (omega (arith, c.len.ensures)) c.index_mut.ensures.value in
     record {
       code = c.input.ensures.code ∙ sym (ap (λ e. (in_met c.args.fate c.args.toggle e).code) is) ∙ ap (λ o. o.code) there;
       after =

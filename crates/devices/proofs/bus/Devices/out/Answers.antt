@@ -11,7 +11,7 @@ returns-then-i-len c =
 pub returns : goal.returns
 returns c =
     let there = found_at c.args.self.now c.place-i.result _ c.place-i.ensures (out_at c.args.fate c.args.toggle c.args.bytes.now) (omega (arith, c.len.ensures)) in
-    let is = met_at c.args.self.now c.place-i.result _ c.place-i.ensures c.index-mut.result.now (omega (arith, c.len.ensures)) c.index-mut.ensures.value in
+    let is = met_at c.args.self.now c.place-i.result _ c.place-i.ensures c.index_mut.result.now (omega (arith, c.len.ensures)) c.index_mut.ensures.value in
     record {
       code = c.out.ensures.code ∙ sym (ap (λ e. (out_met c.args.fate c.args.toggle c.args.bytes.now e).code) is) ∙ ap (λ o. o.code) there;
       after =

@@ -8,6 +8,6 @@ use Rattle.devices.proofs.bus.Devices.push_endpoint.Goals as goal
 
 pub returns : goal.returns
 returns c =
-    let pushed = chosen _ _ _ _ c.push.ensures.items (ap is_ok c.in-ok-push.was) in
+    let pushed = chosen _ _ _ _ c.push.ensures.items (ap is_ok c.in_ok-push.was) in
     ap (with_endpoints (devices_of c.args.self.now))
-    (ap (map endpoint_of) pushed ∙ map_push endpoint_of (vec_items c.args.self.now.endpoints) _ ∙ ap (λ e. endpoints_of c.args.self.now ++ e ∷ []) c.in-ok-endpoint.ensures)
+    (ap (map endpoint_of) pushed ∙ map_push endpoint_of (vec_items c.args.self.now.endpoints) _ ∙ ap (λ e. endpoints_of c.args.self.now ++ e ∷ []) c.in_ok-endpoint.ensures)

@@ -2,8 +2,8 @@ use Rattle.std.proofs.Common.{◌<◌, vec_len, sym, subst}
 use Rattle.devices.proofs.Rows.{packet_parts, packet_added}
 use Rattle.devices.proofs.bus.Devices.push_packet.Goals as goal
 
-pub index-mut-requires : goal.index-mut-requires
-index-mut-requires c =
+pub index_mut-requires : goal.index_mut-requires
+index_mut-requires c =
     subst (λ i. i < vec_len c.args.self.now.endpoints) (sym c.place-i.ensures)
     (packet_parts c.args.address c.args.number c.args.bytes.now c.args.self.now c.requires).1
 
@@ -12,6 +12,6 @@ add_packet-requires c = (packet_parts c.args.address c.args.number c.args.bytes.
 
 pub returns : goal.returns
 returns c =
-    packet_added c.args.self.now c.place-i.result _ c.place-i.ensures c.add_packet.result c.index-mut.result.now c.add_packet.new.self c.args.bytes.now
+    packet_added c.args.self.now c.place-i.result _ c.place-i.ensures c.add_packet.result c.index_mut.result.now c.add_packet.new.self c.args.bytes.now
     (subst (λ i. i < vec_len c.args.self.now.endpoints) (sym c.place-i.ensures) (packet_parts c.args.address c.args.number c.args.bytes.now c.args.self.now c.requires).1)
-    c.index-mut.ensures.value c.add_packet.ensures
+    c.index_mut.ensures.value c.add_packet.ensures

@@ -8,5 +8,5 @@ use Rattle.devices.proofs.endpoints.DeviceEndpoint.add_packet.Goals as goal
 pub returns : goal.returns
 returns c =
     let e = endpoint_of c.args.self.now in
-    let pushed = chosen _ _ _ _ c.push_back.ensures.items (ap is_ok c.in-ok-push_back.was) in
-    ap (with_state e e.toggle e.halted e.taken) (waiting_more (deque_items c.args.self.now.waiting) _ _ _ pushed c.in-ok-packet.ensures)
+    let pushed = chosen _ _ _ _ c.push_back.ensures.items (ap is_ok c.in_ok-push_back.was) in
+    ap (with_state e e.toggle e.halted e.taken) (waiting_more (deque_items c.args.self.now.waiting) _ _ _ pushed c.in_ok-packet.ensures)

@@ -4,9 +4,9 @@ use Rattle.devices.specs.Endpoints.{endpoint_of}
 use Rattle.devices.proofs.Offers.{none_waits, one_waits, some_wait, first_waits, received_whole}
 use Rattle.devices.proofs.endpoints.DeviceEndpoint.offer.Goals as goal
 
-pub returns-in-default : goal.returns-in-default
-returns-in-default c =
-    let tested : ltb 0 (length (deque_items c.args.self.now.waiting)) ≡ false = sym ((ltb_from_iff c.in-default.ensures.variant) ∙ ap (ltb 0) c.args.self.now.waiting.ok.0) in
+pub returns-in_default : goal.returns-in_default
+returns-in_default c =
+    let tested : ltb 0 (length (deque_items c.args.self.now.waiting)) ≡ false = sym ((ltb_from_iff c.in_default.ensures.variant) ∙ ap (ltb 0) c.args.self.now.waiting.ok.0) in
     record { code = none_waits c.args.toggle (endpoint_of c.args.self.now) c.if-self.false (some_wait _ _ tested); bytes = refl }
 
 pub returns-then-not-agrees : goal.returns-then-not-agrees
