@@ -1,5 +1,5 @@
 -- A set-up call of the devices, as one of the chip that they are on. Assumes nothing.
-use Rattle.std.proofs.Common.{◌≡◌, Bool, Ok, Err, Result, ap}
+use Rattle.std.proofs.Common.{Bool, Ok, Err, Result, ap}
 use Rattle.port.specs.Devices.{Devices as Meant}
 use Rattle.devices.specs.declared.bus.Devices.{Devices}
 use Rattle.devices.specs.declared.plans.SetupError.{SetupError}

@@ -1,15 +1,13 @@
 -- A legal launch of a bench chip: a fate, and a transaction under it. Assumes nothing.
-use Rattle.std.proofs.Common.{◌≡◌, sym, ap, ◌∙◌, subst}
+use Rattle.std.proofs.Common.{◌≡◌, subst}
 use Rattle.port.specs.declared.fates.Fate.{Fate}
 use Rattle.port.specs.declared.transactions.Transaction.{Transaction}
-use Rattle.port.specs.Bus.{Bus, next_fate, later_fates}
-use Rattle.port.specs.Launches.{carried, outcome_of, ends}
+use Rattle.port.specs.Bus.{next_fate, later_fates}
+use Rattle.port.specs.Launches.{carried}
 use Rattle.bench.specs.declared.boards.Board.{Board}
 use Rattle.bench.specs.declared.chips.BenchChip.{BenchChip}
 use Rattle.parts.specs.declared.queues.FateQueue.{FateQueue}
 use Rattle.parts.specs.Queues.{queue_bytes}
-use Rattle.parts.specs.Records.{chip_of}
-use Rattle.devices.specs.Devices.{devices_of}
 use Rattle.bench.specs.Chips.{bus_of, Transacted}
 
 pub carriage : (t : Transaction) (fate : Fate) (b : BenchChip) (board : Board) (queue : FateQueue) → fate ≡ next_fate (queue_bytes b.fates) → queue_bytes queue ≡ later_fates (queue_bytes b.fates) → Transacted t fate b.board board → bus_of (record { board = board; fates = queue }) ≡ carried t (bus_of b)

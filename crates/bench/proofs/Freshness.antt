@@ -1,6 +1,5 @@
 -- Setting up keeps a fresh bus fresh. Assumes nothing.
-use Rattle.std.proofs.Common.{◌≡◌, ℕ, zero, suc, ◌+◌, ◌<◌, ◌≤◌, Bool, true, false, cond, ◌&&◌, eqb, ltb, leb, List, [], ◌∷◌, ◌++◌, length, get_or, set, sym, refl, ap, ◌∙◌, subst, ⊎_elim, arith}
-use Rattle.std.specs.List.{AllByRecursion as All}
+use Rattle.std.proofs.Common.{◌≡◌, ℕ, zero, suc, ◌<◌, ◌≤◌, Bool, true, false, ◌&&◌, eqb, ltb, leb, List, [], ◌∷◌, ◌++◌, length, get_or, set, sym, refl, ap, ◌∙◌, ⊎_elim, arith}
 use Rattle.std.proofs.ByRecursion.{All-get_or, All-set, All-push}
 use Rattle.std.proofs.lemmas.List.{length_push, length-set, get_or_append_left, get_or_push, get_or-set_same, get_or-set_other}
 use Rattle.std.proofs.lemmas.Bool.{and_parts, leb-true, ltb-true, eq-eqb, ne_eqb, cases_eq, cases_lt, cases_Bool}
@@ -8,10 +7,9 @@ use Rattle.port.specs.declared.directions.Direction.{Direction}
 use Rattle.port.specs.declared.directions.Direction.TheVariants.{Out, In}
 use Rattle.port.specs.Directions.{facing}
 use Rattle.port.specs.Endpoints.{Endpoint, nowhere, stands_at, place, InRange, WellFormed, FreshEndpoint}
-use Rattle.port.specs.Bus.{Bus, Fresh}
 use Rattle.port.proofs.Places.{place_first, place_later}
 use Rattle.devices.specs.declared.plans.EndpointPlan.{EndpointPlan}
-use Rattle.devices.specs.Setups.{planned, in_range, vacant, more_waiting, packet_fits, packet_place}
+use Rattle.devices.specs.Setups.{planned, in_range, vacant, more_waiting, packet_place}
 use Rattle.bench.specs.Laws.{SetUpBusesAreFresh}
 
 eqb_swap : (a b : ℕ) → eqb a b ≡ eqb b a

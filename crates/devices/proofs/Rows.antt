@@ -1,5 +1,5 @@
 -- The endpoints in memory as the list that they stand for: one of them, and a change of one. Assumes nothing.
-use Rattle.std.proofs.Common.{◌≡◌, ℕ, ◌+◌, ◌<◌, ◌≤◌, Bool, true, false, ◌&&◌, eqb, ltb, leb, List, map, length, get_or, drop, set, Ok, Err, vec_items, vec_len, Result, sym, refl, ap, ◌∙◌, subst, arith, MatchResult}
+use Rattle.std.proofs.Common.{◌≡◌, ℕ, ◌+◌, ◌<◌, ◌≤◌, Bool, true, false, ◌&&◌, eqb, ltb, leb, List, map, length, get_or, drop, set, Ok, Err, vec_items, vec_len, Result, sym, refl, ap, ◌∙◌, arith, MatchResult}
 use Rattle.std.proofs.lemmas.Bool.{lt-ltb, le-ltb, ltb-true, leb-true, and_parts}
 use Rattle.std.specs.Vec.{with_item}
 use Rattle.std.specs.declared.alloc.AllocError.{AllocError}
@@ -8,7 +8,7 @@ use Rattle.std.proofs.lemmas.List.{length-map, get_or-map, map-set, set_past, se
 use Rattle.port.specs.declared.directions.Direction.{Direction}
 use Rattle.port.specs.Endpoints.{Endpoint, nowhere, cleared, stands_at, place, lives}
 use Rattle.port.specs.Devices.{Devices as Meant, with_endpoints, cleared_at}
-use Rattle.port.specs.Reactions.{Met, Outcome, outcome, with_met, at_place}
+use Rattle.port.specs.Reactions.{Outcome, outcome, at_place}
 use Rattle.port.proofs.Places.{place_here, place_more, place_all, lives_here, lives_more, lives_all}
 use Rattle.port.proofs.Outcomes.{at_found, at_missing}
 use Rattle.devices.specs.declared.bus.Devices.{Devices}

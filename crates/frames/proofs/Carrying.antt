@@ -1,13 +1,13 @@
 -- One frame of one register carries what a many-access of that register does. Assumes nothing.
-use Rattle.std.proofs.Common.{◌≡◌, ℕ, zero, suc, ◌+◌, ◌-◌, ◌<◌, ◌≤◌, Bool, true, false, cond, List, [], ◌∷◌, ◌++◌, length, take, drop, replicate, sym, refl, ap, ◌∙◌, ⊎_elim, append-nil, arith}
-use Rattle.std.proofs.lemmas.List.{take_all, drop_all, length-replicate, length-append}
+use Rattle.std.proofs.Common.{◌≡◌, ℕ, zero, suc, ◌+◌, ◌-◌, ◌≤◌, true, List, [], ◌∷◌, ◌++◌, length, take, drop, replicate, refl, ap, ◌∙◌, ⊎_elim, append-nil, arith}
+use Rattle.std.proofs.lemmas.List.{take_all, drop_all, length-replicate}
 use Rattle.std.proofs.lemmas.Bool.{cond-true, cond-false, cases_Bool}
 use Rattle.port.specs.Bus.{Bus}
 use Rattle.port.specs.Accesses.{after_put, got, after_get, after_puts, gots, after_gets}
 use Rattle.frames.specs.declared.duplexes.Duplex.{Duplex}
 use Rattle.frames.specs.Registers.{stays_at, next_register}
-use Rattle.frames.specs.Asked.{Asked, puts, gets}
-use Rattle.frames.specs.Format.{put_command, get_command, frame_of, written_length, written, body, command_puts, command_register}
+use Rattle.frames.specs.Asked.{puts, gets}
+use Rattle.frames.specs.Format.{put_command, get_command, frame_of, written_length, written, body, command_puts}
 use Rattle.frames.specs.Exchanges.{after_put_body, got_body, after_got_body, first_answer, body_answers, after_body, exchanged, after_exchange}
 use Rattle.frames.specs.Pieces.{frame_size}
 use Rattle.frames.proofs.Commands.{put_puts, get_gets, put_register, get_register, framed_from, fits_from, length_fits, frame_sent}

@@ -1,9 +1,9 @@
 -- A command byte read back, and a frame as it lies in a buffer that it fits. Assumes nothing.
-use Rattle.std.proofs.Common.{◌≡◌, ℕ, suc, ◌+◌, ◌-◌, ◌*◌, ◌/◌, ◌%◌, ◌<◌, ◌≤◌, Bool, true, false, cond, ◌&&◌, eqb, leb, List, [], ◌∷◌, ◌++◌, length, take, drop, replicate, sym, refl, ap, ◌∙◌, arith}
+use Rattle.std.proofs.Common.{◌≡◌, ℕ, ◌+◌, ◌-◌, ◌*◌, ◌/◌, ◌%◌, ◌≤◌, true, false, leb, List, ◌++◌, length, take, drop, refl, ap, ◌∙◌, arith}
 use Rattle.std.proofs.lemmas.List.{take_at, length-replicate}
 use Rattle.std.proofs.lemmas.Bool.{le-leb, eq-eqb, ne_eqb, and_from, cond-true}
 use Rattle.frames.specs.Asked.{Asked, puts, gets}
-use Rattle.frames.specs.Format.{put_command, get_command, command_of, register_of, body_of, count_of, frame_of, framed, fits, written_length, written, command_puts, command_register}
+use Rattle.frames.specs.Format.{put_command, get_command, register_of, body_of, count_of, frame_of, framed, fits, written_length, written, command_puts, command_register}
 
 module _ (register : ℕ) where
   pub put_puts : command_puts (put_command register) ≡ true

@@ -1,9 +1,9 @@
 -- Written and read, read and written. Assumes nothing.
-use Rattle.std.proofs.Common.{◌≡◌, ℕ, suc, ◌+◌, ◌-◌, ◌*◌, ◌/◌, ◌%◌, ◌<◌, ◌≤◌, Bool, true, false, cond, eqb, leb, List, [], ◌∷◌, ◌++◌, length, take, drop, replicate, Some, Option, sym, refl, ap, ◌∙◌, subst, ⊎_elim, arith}
+use Rattle.std.proofs.Common.{◌≡◌, ℕ, ◌+◌, ◌/◌, ◌%◌, ◌<◌, ◌≤◌, true, false, leb, List, ◌∷◌, length, take, replicate, Some, sym, refl, ap, ◌∙◌, subst, ⊎_elim, arith}
 use Rattle.std.proofs.lemmas.List.{take_all, length-replicate, length-take}
 use Rattle.std.proofs.lemmas.Bool.{and_parts, leb-true, cond-true, cond-false, eqb-true, eqb-false, cases_Bool}
 use Rattle.frames.specs.Asked.{Asked, puts, gets}
-use Rattle.frames.specs.Format.{put_command, get_command, command_of, register_of, body_of, count_of, frame_of, framed, fits, written_length, written, command_puts, command_register, body, asked_by, read}
+use Rattle.frames.specs.Format.{put_command, get_command, register_of, count_of, frame_of, framed, fits, written_length, written, command_puts, command_register, body, asked_by, read}
 use Rattle.frames.specs.Laws.{WrittenIsReadBack, ReadIsWrittenPlain, plain_command, plain}
 use Rattle.frames.proofs.Commands.{put_puts, get_gets, put_register, get_register, framed_from, fits_from, length_fits, frame_alone}
 

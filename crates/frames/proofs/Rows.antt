@@ -1,11 +1,10 @@
 -- The frames of a many-access, seen as a whole. Assumes nothing.
-use Rattle.std.proofs.Common.{◌≡◌, ℕ, zero, suc, ◌+◌, ◌-◌, ◌<◌, ◌≤◌, Bool, true, false, cond, leb, List, [], ◌∷◌, ◌++◌, map, length, take, drop, replicate, sym, refl, ap, ◌∙◌, subst, ⊎_elim, append_assoc, append-nil, arith}
+use Rattle.std.proofs.Common.{◌≡◌, ℕ, zero, suc, ◌<◌, ◌≤◌, leb, List, [], ◌∷◌, ◌++◌, map, length, take, drop, sym, refl, ap, ◌∙◌, subst, ⊎_elim, append_assoc, append-nil, arith}
 use Rattle.std.proofs.lemmas.List.{take_all, drop_all, length-drop, length-take-le, take-append-drop}
 use Rattle.std.proofs.lemmas.Bool.{cases_lt, cond-true, le-leb}
 use Rattle.frames.specs.Asked.{Asked, puts, gets}
 use Rattle.frames.specs.Format.{put_command, get_command, command_of, register_of, body_of}
 use Rattle.frames.specs.Pieces.{frame_size, pieces, row, frames_of}
-use Rattle.frames.specs.Chains.{Chain}
 use Rattle.frames.specs.Laws.{Filled, OneByteOneFrame, PiecesAreFilled, ChainsAreWhole, NothingAbove31}
 use Rattle.frames.proofs.Cutting.{pieces_more, some_fit}
 use Rattle.frames.proofs.Above.{put_above, got_above, get_above}

@@ -1,5 +1,5 @@
 -- What an access asks for: bytes to put to a register, or a count of bytes to get from one. Assumes nothing.
-use Rattle.std.specs.Prelude.{ℕ, List, length}
+use Rattle.std.specs.Prelude.{ℕ, List}
 use Rattle.frames.specs.declared.formats.Access.{Access}
 use Rattle.frames.specs.declared.formats.Access.TheVariants.{Put, Get}
 

@@ -8,7 +8,6 @@ use Rattle.port.specs.Bus.{Bus}
 use Rattle.attempt.specs.Tries.{out_answer}
 use Rattle.pipes.specs.declared.counting.Verdict.{Verdict}
 use Rattle.pipes.specs.declared.counting.Verdict.TheVariants.{Succeeded, Again, Stop}
-use Rattle.pipes.specs.declared.pipes.Event.TheVariants as event
 use Rattle.pipes.specs.declared.pipes.Pipe.{Pipe}
 use Rattle.pipes.specs.declared.pipes.Standing.{Standing}
 use Rattle.pipes.specs.declared.pipes.Standing.TheVariants.{InStep, Doubtful, Halted}

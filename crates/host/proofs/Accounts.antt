@@ -18,7 +18,7 @@ use Rattle.pipes.specs.declared.pipes.Pipe.{Pipe}
 use Rattle.pipes.specs.declared.refusals.Refusal.TheVariants.{NakLimit, ThirdMiss, Stalled}
 use Rattle.host.specs.declared.sending.Progress.{Progress}
 use Rattle.pipes.specs.Counting.{fresh_counts, verdict, counted, succeeded, stop_of, with_nak}
-use Rattle.host.specs.Sending.{Sending, sending, none_yet, send_packet, send_step, send_going}
+use Rattle.host.specs.Sending.{Sending, none_yet, send_packet, send_step, send_going}
 use Rattle.pipes.proofs.Judging.{miss_verdict, miss_noted}
 use Rattle.host.proofs.OutTry.{outcome_out, out_code, out_toggle, out_devices, out_empty}
 use Rattle.host.proofs.Replies.{Reply, taken, repeated, busy, stalled, lost, unheard_taken, reply}

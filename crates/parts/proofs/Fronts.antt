@@ -1,5 +1,5 @@
 -- Taking bytes from the front of what is left of a list. Assumes nothing.
-use Rattle.std.proofs.Common.{◌≡◌, ℕ, ◌+◌, ◌-◌, ◌<◌, ◌≤◌, List, [], ◌∷◌, length, get_or, drop, sym, refl, ap, ◌∙◌, add-zero, arith}
+use Rattle.std.proofs.Common.{◌≡◌, ℕ, ◌+◌, ◌≤◌, List, length, get_or, drop, sym, ap, ◌∙◌, add-zero}
 use Rattle.std.proofs.lemmas.List.{drop_all, drop-drop, get_or-drop}
 
 pub next_read : (xs : List ℕ) (i : ℕ) → get_or xs i 0 ≡ get_or (drop i xs) 0 0

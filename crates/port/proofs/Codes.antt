@@ -1,17 +1,17 @@
 -- Every byte is read as a fate with a code of 7 to 15, and so every result code is below 16. Assumes nothing.
-use Rattle.std.proofs.Common.{◌≡◌, ℕ, ◌+◌, ◌/◌, ◌%◌, ◌<◌, ◌≤◌, Bool, true, false, cond, not, ◌&&◌, eqb, ltb, leb, List, [], ◌∷◌, length, get_or, sym, refl, ap, ◌∙◌, subst, mod-lt, arith}
+use Rattle.std.proofs.Common.{◌≡◌, ℕ, ◌+◌, ◌/◌, ◌%◌, ◌<◌, ◌≤◌, Bool, true, false, cond, not, eqb, ltb, leb, List, [], ◌∷◌, length, arith}
 use Rattle.std.proofs.lemmas.Bool.{cond_both, and_parts, leb-true}
 use Rattle.port.specs.declared.fates.Fate.{Fate}
 use Rattle.port.specs.declared.fates.Fate.TheVariants.{Arrives, Lost, Unheard, Nak, Stall}
 use Rattle.port.specs.declared.toggles.Toggle.{Toggle}
 use Rattle.port.specs.Fates.{coded, fate_of, Real}
 use Rattle.port.specs.Toggles.{agree}
-use Rattle.port.specs.Endpoints.{Endpoint, nowhere, took, handed, place, lives}
+use Rattle.port.specs.Endpoints.{Endpoint, took, handed, lives}
 use Rattle.port.specs.Devices.{Devices, heard_good}
 use Rattle.port.specs.Reactions.{Met, met, out_met, in_met, in_reaches, Outcome, outcome, out_at, in_at, at_place, at_address, out_outcome, in_outcome, setup_met, setup_outcome, hs_code, hs_outcome}
 use Rattle.port.specs.declared.transactions.Transaction.{Transaction}
 use Rattle.port.specs.declared.transactions.Transaction.TheVariants.{Setup, In, Out, HsIn}
-use Rattle.port.specs.Chip.{Chip, packet}
+use Rattle.port.specs.Chip.{Chip}
 use Rattle.port.specs.Bus.{next_fate}
 use Rattle.port.specs.Launches.{outcome_of}
 

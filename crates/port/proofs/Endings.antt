@@ -1,12 +1,11 @@
 -- Every launch ends idle, and both bits of a toggle pair change nothing. Assumes nothing.
-use Rattle.std.proofs.Common.{◌≡◌, ℕ, ◌<◌, true, sym, refl, ap, ◌∙◌, arith}
+use Rattle.std.proofs.Common.{ℕ, ◌<◌, refl, ap, ◌∙◌, arith}
 use Rattle.port.specs.declared.transactions.Transaction.{Transaction}
 use Rattle.port.specs.declared.transactions.Transaction.TheVariants.{Setup, In, Out, HsIn}
-use Rattle.port.specs.Chip.{Chip, has_bit, toggled}
+use Rattle.port.specs.Chip.{Chip, toggled}
 use Rattle.port.specs.Reactions.{Outcome}
 use Rattle.port.specs.Bus.{Bus, next_fate}
-use Rattle.port.specs.Launches.{ends, ends_plain, carried, refused, outcome_of}
-use Rattle.port.specs.Accesses.{after_put}
+use Rattle.port.specs.Launches.{ends, ends_plain, carried, refused}
 use Rattle.port.specs.Laws.{Idle, LaunchesEndIdle, BothBitsChangeNothing}
 use Rattle.port.proofs.Codes.{next_real, outcome_small}
 use Rattle.port.proofs.Single.{put_29, launch_cases}

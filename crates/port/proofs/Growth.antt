@@ -1,5 +1,5 @@
 -- Bytes that an endpoint has taken stay taken. Assumes nothing.
-use Rattle.std.proofs.Common.{◌≡◌, ℕ, ◌+◌, ◌<◌, ◌≤◌, Bool, true, false, cond, not, eqb, ltb, ◌⊎◌, List, [], ◌∷◌, ◌++◌, length, get_or, set, sym, refl, ap, ◌∙◌, subst, inl, inr, ⊎_elim, append-nil, arith}
+use Rattle.std.proofs.Common.{◌≡◌, ℕ, ◌+◌, Bool, true, false, cond, not, eqb, ltb, List, [], length, get_or, set, sym, refl, ap, ◌∙◌, subst, inl, inr, ⊎_elim, append-nil}
 use Rattle.std.proofs.lemmas.List.{get_or-set_same, get_or-set_other, set_past}
 use Rattle.std.proofs.lemmas.Bool.{cond_both, cases_lt, cases_eq}
 use Rattle.port.specs.declared.directions.Direction.TheVariants as directions
@@ -12,7 +12,7 @@ use Rattle.port.specs.Toggles.{agree}
 use Rattle.port.specs.Chip.{Chip, load_sending, load_setup, set_count, clear_flags, set_address, set_toggles, packet}
 use Rattle.port.specs.Endpoints.{Endpoint, nowhere, took, handed, place, lives, cleared}
 use Rattle.port.specs.Devices.{Devices, clear_place, after_setup}
-use Rattle.port.specs.Reactions.{Met, met, out_reaches, out_met, in_reaches, in_met, Outcome, outcome, with_met, out_at, in_at, at_place, at_address, setup_met}
+use Rattle.port.specs.Reactions.{Met, met, out_reaches, out_met, in_reaches, in_met, Outcome, outcome, out_at, in_at, at_place, at_address, setup_met}
 use Rattle.port.specs.Bus.{Bus, with_chip, next_fate}
 use Rattle.port.specs.Launches.{carried, refused, launch, outcome_of}
 use Rattle.port.specs.Accesses.{after_put}

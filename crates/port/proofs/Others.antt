@@ -1,5 +1,5 @@
 -- A launch changes no other endpoint, and a lost one changes none. Assumes nothing.
-use Rattle.std.proofs.Common.{◌≡◌, ℕ, suc, ◌+◌, ◌%◌, ◌<◌, ◌≤◌, Bool, true, false, cond, ltb, ◌⊎◌, List, [], ◌∷◌, length, get_or, set, Some, None, Option, sym, refl, ap, ◌∙◌, subst, inl, inr, ⊎_elim, arith}
+use Rattle.std.proofs.Common.{◌≡◌, ℕ, ◌+◌, ◌%◌, ◌<◌, ◌≤◌, true, false, ltb, List, [], ◌∷◌, length, get_or, set, Some, None, Option, sym, refl, ap, ◌∙◌, subst, ⊎_elim, arith}
 use Rattle.std.proofs.lemmas.List.{get_or-set_other, set_past, set-get_or}
 use Rattle.std.proofs.lemmas.Bool.{cond_both, cases_lt, cases_eq, cases_Bool, both_ways}
 use Rattle.std.proofs.lemmas.Bool.Decides.{nat_tests}
@@ -16,9 +16,8 @@ use Rattle.port.specs.Devices.{Devices, with_endpoints, named_direction, clear_t
 use Rattle.port.specs.Reactions.{Outcome, outcome, out_at, in_at, at_place, at_address, setup_met, hs_code}
 use Rattle.port.specs.Bus.{Bus, next_fate}
 use Rattle.port.specs.Launches.{carried, refused, launch_of, outcome_of}
-use Rattle.port.specs.Accesses.{after_put}
 use Rattle.port.specs.Laws.{OtherEndpointsStay, LostChangesNoDevice}
-use Rattle.port.proofs.Places.{place_first, place_later, place_none}
+use Rattle.port.proofs.Places.{place_first, place_later}
 use Rattle.port.proofs.Single.{put_30, launch_cases}
 
 -- a place that was found is that of an endpoint which stands there

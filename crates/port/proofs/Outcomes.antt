@@ -1,5 +1,5 @@
 -- What comes of a transaction, by whether its endpoint or its address is there. Assumes nothing.
-use Rattle.std.proofs.Common.{◌≡◌, ℕ, ◌<◌, ◌≤◌, true, false, cond, length, sym, ap, ◌∙◌}
+use Rattle.std.proofs.Common.{◌≡◌, ℕ, ◌<◌, ◌≤◌, true, false, cond, length, sym, ap}
 use Rattle.std.proofs.lemmas.Bool.{lt-ltb, le-ltb}
 use Rattle.port.specs.Endpoints.{lives}
 use Rattle.port.specs.Devices.{Devices}

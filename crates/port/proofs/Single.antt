@@ -1,5 +1,5 @@
 -- What single registers do, for proofs that do not look into the definitions of the accesses. Assumes nothing.
-use Rattle.std.proofs.Common.{◌≡◌, ℕ, Bool, true, false, cond, eqb, length, Some, None, Option, sym, refl, ap, ◌∙◌}
+use Rattle.std.proofs.Common.{◌≡◌, ℕ, false, eqb, length, Some, None, Option, refl}
 use Rattle.std.proofs.lemmas.Bool.{cond_both}
 use Rattle.port.specs.declared.transactions.Transaction.{Transaction}
 use Rattle.port.specs.Transactions.{transaction_of}

@@ -1,5 +1,5 @@
 -- The chip record: what the host chip holds between two accesses. Assumes nothing.
-use Rattle.std.specs.Prelude.{ℕ, ◌+◌, ◌-◌, ◌*◌, ◌/◌, ◌%◌, ◌<◌, ◌≤◌, Bool, true, false, cond, List, [], ◌∷◌, ◌++◌, length, take, drop, replicate, ◌==◌, nat_le, nat_lt}
+use Rattle.std.specs.Prelude.{ℕ, ◌+◌, ◌-◌, ◌*◌, ◌/◌, ◌%◌, Bool, true, false, cond, List, [], ◌∷◌, ◌++◌, length, take, drop, replicate, ◌==◌, nat_le, nat_lt}
 use Rattle.port.specs.declared.toggles.Toggle.{Toggle}
 use Rattle.port.specs.declared.toggles.Toggle.TheVariants.{Data0, Data1}
 use Rattle.port.specs.Toggles.{bit}

@@ -1,6 +1,6 @@
 -- What the rules of a port amount to, in the words of the bus: relations that hold whatever is put, and in whatever state.
 -- Assumes nothing.
-use Rattle.std.specs.Prelude.{◌≡◌, ℕ, ◌+◌, ◌%◌, ◌<◌, ◌≤◌, true, false, ◌⊎◌, List, [], ◌++◌, length, get_or, Some, slice_index_or}
+use Rattle.std.specs.Prelude.{◌≡◌, ℕ, ◌+◌, ◌%◌, ◌<◌, ◌≤◌, true, false, ◌⊎◌, List, [], ◌++◌, get_or, Some, slice_index_or}
 use Rattle.port.specs.declared.directions.Direction.TheVariants.{Out, In}
 use Rattle.port.specs.declared.fates.Fate.TheVariants.{Lost}
 use Rattle.port.specs.Fates.{fate_of, Real}

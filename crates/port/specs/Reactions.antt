@@ -1,7 +1,6 @@
 -- What the devices do when a transaction meets a given fate: the result code that the host sees, and the devices afterwards.
 -- Where the fates come from plays no part here. Assumes nothing.
 use Rattle.std.specs.Prelude.{ℕ, ◌+◌, Bool, true, false, cond, not, List, [], ◌∷◌, length, get_or, nat_lt, slice_index_or, slice_set}
-use Rattle.port.specs.declared.directions.Direction.{Direction}
 use Rattle.port.specs.declared.directions.Direction.TheVariants.{Out, In}
 use Rattle.port.specs.declared.fates.Fate.{Fate}
 use Rattle.port.specs.declared.fates.Fate.TheVariants.{Arrives, Lost, Unheard, Nak, Stall}

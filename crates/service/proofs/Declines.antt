@@ -14,7 +14,7 @@ use Rattle.service.specs.Asks.{Ask, open_pipe, send_message, fetch_into, recover
 use Rattle.service.specs.Serving.{State}
 use Rattle.service.specs.Histories.{Event, History}
 use Rattle.service.specs.Words.{Lead, succeeds, opens, lead_of, Message, goes_to, message_of, messages_to, asks_renewal, packets_of, by_size}
-use Rattle.service.specs.Laws.{Took, nothing, more, SlipsAreTrue}
+use Rattle.service.specs.Laws.{Took, more, SlipsAreTrue}
 use Rattle.service.proofs.Recalls.{Inert, messages_more}
 use Rattle.service.proofs.Sounds.{Sound}
 use Rattle.service.proofs.Frames.{untouched}

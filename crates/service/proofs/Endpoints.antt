@@ -1,5 +1,5 @@
 -- No call makes an endpoint or takes one away. Assumes nothing.
-use Rattle.std.proofs.Common.{ℕ, List, [], ◌∷◌, Ok, Err, Result}
+use Rattle.std.proofs.Common.{ℕ, [], ◌∷◌, Ok, Err, Result}
 use Rattle.pipes.specs.declared.pipes.Pipe.{Pipe}
 use Rattle.pipes.specs.declared.refusals.Refusal.{Refusal}
 use Rattle.pipes.specs.Checks.{present}

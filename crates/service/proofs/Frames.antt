@@ -3,7 +3,6 @@ use Rattle.std.proofs.Common.{◌≡◌, ℕ, ◌<◌, ◌&&◌, eqb, ◌∷◌,
 use Rattle.port.specs.declared.directions.Direction.{Direction}
 use Rattle.port.specs.declared.directions.Direction.TheVariants.{Out, In}
 use Rattle.port.specs.Directions.{facing}
-use Rattle.port.specs.Endpoints.{place}
 use Rattle.port.specs.Bus.{Bus}
 use Rattle.pipes.specs.declared.pipes.Pipe.{Pipe}
 use Rattle.host.specs.Laws.{IsInStep}

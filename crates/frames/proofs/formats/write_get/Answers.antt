@@ -1,4 +1,4 @@
-use Rattle.std.proofs.Common.{replicate, ap, ◌∙◌, arith, rules}
+use Rattle.std.proofs.Common.{replicate, ap, ◌∙◌, rules}
 use Rattle.frames.specs.Asked.{gets}
 use Rattle.frames.proofs.Writing.{frame_written, body_room}
 use Rattle.frames.proofs.formats.write_get.Goals as goal

@@ -1,4 +1,4 @@
-use Rattle.std.proofs.Common.{arith, rules}
+use Rattle.std.proofs.Common.{rules}
 use Rattle.frames.specs.Asked.{puts}
 use Rattle.frames.proofs.Writing.{frame_written}
 use Rattle.frames.proofs.formats.write_put.Goals as goal

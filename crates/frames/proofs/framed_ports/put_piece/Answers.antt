@@ -1,4 +1,4 @@
-use Rattle.std.proofs.Common.{◌≡◌, ℕ, ◌-◌, List, length, take, replicate, sym, refl, ap, ◌∙◌, subst}
+use Rattle.std.proofs.Common.{◌≡◌, ℕ, ◌-◌, List, length, take, replicate, refl, ap, ◌∙◌, subst}
 use Rattle.frames.specs.Asked.{puts}
 use Rattle.frames.specs.Format.{frame_of}
 use Rattle.frames.specs.Exchanges.{after_exchange}

@@ -1,4 +1,4 @@
-use Rattle.std.proofs.Common.{refl, ap, ◌∙◌, rules}
+use Rattle.std.proofs.Common.{refl, ◌∙◌, rules}
 use Rattle.port.proofs.Single.{get_keeps}
 use Rattle.frames.proofs.port_wires.status.Goals as goal
 

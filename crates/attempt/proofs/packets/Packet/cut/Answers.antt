@@ -1,4 +1,4 @@
-use Rattle.std.proofs.Common.{min, length, take, ap, ◌∙◌}
+use Rattle.std.proofs.Common.{take, ap, ◌∙◌}
 use Rattle.attempt.proofs.Cuts.{take_within}
 use Rattle.attempt.proofs.packets.Packet.cut.Goals as goal
 

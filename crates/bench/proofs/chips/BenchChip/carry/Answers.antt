@@ -1,6 +1,5 @@
 use Rattle.std.proofs.Common.{sym, subst}
 use Rattle.port.specs.Fates.{Real}
-use Rattle.port.specs.Launches.{carried}
 use Rattle.port.proofs.Codes.{next_real}
 use Rattle.parts.specs.Queues.{queue_bytes}
 use Rattle.bench.proofs.Carriages.{carriage}

@@ -1,4 +1,4 @@
-use Rattle.std.proofs.Common.{Some, ap, ◌∙◌}
+use Rattle.std.proofs.Common.{ap, ◌∙◌}
 use Rattle.port.specs.Devices.{after_setup, cleared_at, clear_place, with_heard}
 use Rattle.devices.specs.Devices.{devices_of, endpoints_of}
 use Rattle.devices.proofs.bus.Devices.hear.Goals as goal

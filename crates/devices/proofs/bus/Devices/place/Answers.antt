@@ -1,4 +1,4 @@
-use Rattle.std.proofs.Common.{◌∙◌, arith}
+use Rattle.std.proofs.Common.{arith}
 use Rattle.devices.proofs.Rows.{row_here, row_more, row_all}
 use Rattle.devices.proofs.bus.Devices.place.Goals as goal
 

@@ -1,5 +1,5 @@
 use Rattle.std.proofs.cmp.Tests.{ltb_from_iff}
-use Rattle.std.proofs.Common.{◌≡◌, true, false, ltb, length, is_some, deque_items, sym, refl, ap, ◌∙◌}
+use Rattle.std.proofs.Common.{◌≡◌, true, false, ltb, length, deque_items, sym, refl, ap, ◌∙◌}
 use Rattle.devices.specs.Endpoints.{endpoint_of}
 use Rattle.devices.proofs.Offers.{none_waits, one_waits, some_wait, first_waits, received_whole}
 use Rattle.devices.proofs.endpoints.DeviceEndpoint.offer.Goals as goal

@@ -1,5 +1,5 @@
 use Rattle.std.proofs.cmp.Tests.{ltb_from_iff}
-use Rattle.std.proofs.Common.{◌≡◌, true, false, ltb, length, deque_items, sym, ap, ◌∙◌}
+use Rattle.std.proofs.Common.{ltb, deque_items, sym, ap, ◌∙◌}
 use Rattle.devices.proofs.Offers.{packet_at, packets_past}
 use Rattle.devices.proofs.endpoints.DeviceEndpoint.packet.Goals as goal
 

@@ -1,4 +1,4 @@
-use Rattle.std.proofs.Common.{◌≡◌, ◌+◌, ◌-◌, ◌≤◌, min, length, sym, refl, ap, ◌∙◌, arith}
+use Rattle.std.proofs.Common.{◌≡◌, ◌-◌, min, length, sym, refl, ap, ◌∙◌, arith}
 use Rattle.frames.specs.Asked.{puts}
 use Rattle.frames.specs.Format.{put_command}
 use Rattle.frames.specs.Pieces.{frame_size}

@@ -1,4 +1,4 @@
-use Rattle.std.proofs.Common.{◌≤◌, length, get_or, sym, ap, ◌∙◌, arith}
+use Rattle.std.proofs.Common.{◌≤◌, length, get_or, ap, ◌∙◌, arith}
 use Rattle.parts.specs.Rooms.{room_bytes}
 use Rattle.parts.proofs.Fronts.{next_read, rest_read, none_next, none_rest}
 use Rattle.parts.proofs.inboxes.Inbox.take.Goals as goal
