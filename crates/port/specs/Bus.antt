@@ -1,6 +1,6 @@
 -- A port's meaning: the chip record, the devices on the bus, and the fates to come. Assumes nothing.
 use Rattle.std.specs.Prelude.{◌≡◌, ℕ, List, [], ◌∷◌, None}
-use Rattle.std.specs.List.{AllByRecursion as All}
+use Rattle.std.specs.List.{AllByRecursion}
 use Rattle.port.specs.declared.fates.Fate.{Fate}
 use Rattle.port.specs.declared.fates.Fate.TheVariants.{Lost}
 use Rattle.port.specs.Fates.{fate_of}
@@ -31,5 +31,5 @@ later_fates (byte ∷ bytes) = bytes
 pub record Fresh (b : Bus) : Type 0 where
   pub chip_fresh : b.chip ≡ fresh_chip
   pub endpoints_formed : WellFormed b.devices.endpoints
-  pub endpoints_fresh : All FreshEndpoint b.devices.endpoints
+  pub endpoints_fresh : AllByRecursion FreshEndpoint b.devices.endpoints
   pub none_heard : b.devices.heard ≡ None

@@ -1,6 +1,6 @@
 -- Device endpoints: what one is, how one is found on the bus, and what makes a list of them well formed and fresh. Assumes nothing.
 use Rattle.std.specs.Prelude.{◌≡◌, ℕ, suc, ◌<◌, ◌≤◌, Bool, true, false, cond, ◌&&◌, ◌||◌, List, [], ◌∷◌, ◌++◌, length, get_or, ◌==◌, slice_index_or}
-use Rattle.std.specs.List.{AllByRecursion as All}
+use Rattle.std.specs.List.{AllByRecursion}
 use Rattle.port.specs.declared.directions.Direction.{Direction}
 use Rattle.port.specs.declared.directions.Direction.TheVariants.{Out}
 use Rattle.port.specs.declared.toggles.Toggle.{Toggle}
@@ -95,11 +95,11 @@ pub record InRange (e : Endpoint) : Type 0 where
   pub capacity_most : e.capacity ≤ 4096
   pub taken_most : length e.taken ≤ e.capacity
   pub packets_most : length e.waiting ≤ 16
-  pub packet_most : All (λ p. length p ≤ 64) e.waiting
+  pub packet_most : AllByRecursion (λ p. length p ≤ 64) e.waiting
 
 -- well formed: every endpoint in range, and no two with the same address, number and direction
 pub record WellFormed (es : List Endpoint) : Type 0 where
-  pub each : All InRange es
+  pub each : AllByRecursion InRange es
   pub distinct : (i j : ℕ) → i < j → j < length es → stands_at (get_or es i nowhere).address (get_or es i nowhere).number (get_or es i nowhere).direction (slice_index_or es j nowhere) ≡ false
 
 -- fresh: nothing taken yet; the toggle and the halt may be anything
