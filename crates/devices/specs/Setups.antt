@@ -1,5 +1,5 @@
 -- Setting up the devices of a bus: what each call adds, when it refuses, and what it then leaves. Assumes nothing.
-use Rattle.std.specs.Prelude.{◌≡◌, ℕ, Bool, true, false, ◌&&◌, List, [], ◌∷◌, ◌++◌, length, get_or, Some, None, Ok, Err, Option, Result, nat_le, nat_lt, slice_index_or, slice_set}
+use Rattle.std.specs.Prelude.{◌≡◌, ℕ, Bool, true, false, ◌&&◌, List, [], ◌∷◌, ◌++◌, length, Some, None, Ok, Err, Option, Result, nat_le, nat_lt, slice_index_or, slice_set}
 use Rattle.port.specs.declared.directions.Direction.TheVariants.{In}
 use Rattle.port.specs.Toggles.{toggle_of}
 use Rattle.port.specs.Endpoints.{Endpoint, with_state, nowhere, place}
@@ -58,7 +58,7 @@ packet_place address number d = place address number In d.endpoints
 abbrev pub packet_fits : ℕ → ℕ → List ℕ → Meant → Bool
 packet_fits address number bytes d =
     nat_le (length bytes) 64
-    && (nat_lt (packet_place address number d) (length d.endpoints) && nat_lt (length (get_or d.endpoints (packet_place address number d) nowhere).waiting) 16)
+    && (nat_lt (packet_place address number d) (length d.endpoints) && nat_lt (length (slice_index_or d.endpoints (packet_place address number d) nowhere).waiting) 16)
 
 -- how a set-up call ends. What fits is added; what does not is refused, and the devices are the very same; and where memory is
 -- wanting the devices stand for what they stood for

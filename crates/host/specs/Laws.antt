@@ -1,5 +1,5 @@
 -- What one call promises, in the words of the bus: relations between the bus before and the bus after. Assumes nothing.
-use Rattle.std.specs.Prelude.{◌≡◌, ℕ, suc, ◌+◌, ◌<◌, ◌≤◌, false, ◌≢◌, ◌⊎◌, List, [], ◌++◌, length, get_or, take, Some, None, Ok, Err, slice_index_or}
+use Rattle.std.specs.Prelude.{◌≡◌, ℕ, suc, ◌+◌, ◌<◌, ◌≤◌, false, ◌≢◌, ◌⊎◌, List, [], ◌++◌, length, take, Some, None, Ok, Err, slice_index_or}
 use Rattle.port.specs.declared.directions.Direction.{Direction}
 use Rattle.port.specs.declared.directions.Direction.TheVariants.{Out}
 use Rattle.port.specs.Endpoints.{Endpoint, nowhere, place}
@@ -46,7 +46,7 @@ SendsAreAccountedFor =
     admit_send places number (length message) ≡ Ok p → IsInStep p b →
     ((n : ℕ)
     × ((n ≡ (send_done places b number message).answer.sent) ⊎ (n ≡ (send_done places b number message).answer.sent + (send_done places b number message).answer.doubtful))
-    × ((get_or (send_done places b number message).bus.devices.endpoints (spot p b) nowhere).taken ≡ (device p b).taken ++ take n message)
+    × ((slice_index_or (send_done places b number message).bus.devices.endpoints (spot p b) nowhere).taken ≡ (device p b).taken ++ take n message)
     × ((k : ℕ) → k ≢ spot p b → slice_index_or (send_done places b number message).bus.devices.endpoints k nowhere ≡ slice_index_or b.devices.endpoints k nowhere))
 
 -- sent and doubtful bytes never pass the message

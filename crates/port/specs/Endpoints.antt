@@ -1,5 +1,5 @@
 -- Device endpoints: what one is, how one is found on the bus, and what makes a list of them well formed and fresh. Assumes nothing.
-use Rattle.std.specs.Prelude.{◌≡◌, ℕ, suc, ◌<◌, ◌≤◌, Bool, true, false, cond, ◌&&◌, ◌||◌, List, [], ◌∷◌, ◌++◌, length, get_or, ◌==◌, slice_index_or}
+use Rattle.std.specs.Prelude.{◌≡◌, ℕ, suc, ◌<◌, ◌≤◌, Bool, true, false, cond, ◌&&◌, ◌||◌, List, [], ◌∷◌, ◌++◌, length, ◌==◌, slice_index_or}
 use Rattle.std.specs.List.{AllByRecursion}
 use Rattle.port.specs.declared.directions.Direction.{Direction}
 use Rattle.port.specs.declared.directions.Direction.TheVariants.{Out}
@@ -100,7 +100,7 @@ pub record InRange (e : Endpoint) : Type 0 where
 -- well formed: every endpoint in range, and no two with the same address, number and direction
 pub record WellFormed (es : List Endpoint) : Type 0 where
   pub each : AllByRecursion InRange es
-  pub distinct : (i j : ℕ) → i < j → j < length es → stands_at (get_or es i nowhere).address (get_or es i nowhere).number (get_or es i nowhere).direction (slice_index_or es j nowhere) ≡ false
+  pub distinct : (i j : ℕ) → i < j → j < length es → stands_at (slice_index_or es i nowhere).address (slice_index_or es i nowhere).number (slice_index_or es i nowhere).direction (slice_index_or es j nowhere) ≡ false
 
 -- fresh: nothing taken yet; the toggle and the halt may be anything
 abbrev pub FreshEndpoint : Endpoint → Type 0

@@ -1,6 +1,6 @@
 -- What the rules of a port amount to, in the words of the bus: relations that hold whatever is put, and in whatever state.
 -- Assumes nothing.
-use Rattle.std.specs.Prelude.{◌≡◌, ℕ, ◌+◌, ◌%◌, ◌<◌, ◌≤◌, true, false, ◌⊎◌, List, [], ◌++◌, get_or, Some, slice_index_or}
+use Rattle.std.specs.Prelude.{◌≡◌, ℕ, ◌+◌, ◌%◌, ◌<◌, ◌≤◌, true, false, ◌⊎◌, List, [], ◌++◌, Some, slice_index_or}
 use Rattle.port.specs.declared.directions.Direction.TheVariants.{Out, In}
 use Rattle.port.specs.declared.fates.Fate.TheVariants.{Lost}
 use Rattle.port.specs.Fates.{fate_of, Real}
@@ -45,7 +45,7 @@ Grown bytes before after = (more : List ℕ) × (after ≡ before ++ more) × ((
 -- a get changes no device
 abbrev pub TakenBytesOnlyGrow : Type 0
 TakenBytesOnlyGrow =
-    ((b : Bus) (register value i : ℕ) → Grown (packet b.chip) (get_or b.devices.endpoints i nowhere).taken (get_or (after_put register value b).devices.endpoints i nowhere).taken)
+    ((b : Bus) (register value i : ℕ) → Grown (packet b.chip) (slice_index_or b.devices.endpoints i nowhere).taken (slice_index_or (after_put register value b).devices.endpoints i nowhere).taken)
     × ((b : Bus) (register : ℕ) → (after_get register b).devices ≡ b.devices)
 
 -- an OUT or an IN changes no endpoint but the one of its address, number and direction; a SETUP none but the one that it asks to

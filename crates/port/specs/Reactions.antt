@@ -1,6 +1,6 @@
 -- What the devices do when a transaction meets a given fate: the result code that the host sees, and the devices afterwards.
 -- Where the fates come from plays no part here. Assumes nothing.
-use Rattle.std.specs.Prelude.{ℕ, ◌+◌, Bool, true, false, cond, not, List, [], ◌∷◌, length, get_or, nat_lt, slice_index_or, slice_set}
+use Rattle.std.specs.Prelude.{ℕ, ◌+◌, Bool, true, false, cond, not, List, [], ◌∷◌, length, nat_lt, slice_index_or, slice_set}
 use Rattle.port.specs.declared.directions.Direction.TheVariants.{Out, In}
 use Rattle.port.specs.declared.fates.Fate.{Fate}
 use Rattle.port.specs.declared.fates.Fate.TheVariants.{Arrives, Lost, Unheard, Nak, Stall}
@@ -83,7 +83,7 @@ out_at fate toggle bytes d i =
 abbrev pub in_at : Fate → Toggle → Devices → ℕ → Outcome
 in_at fate toggle d i =
     let m = in_met fate toggle (slice_index_or d.endpoints i nowhere) in
-    record { code = m.code; devices = with_met d i m; bytes = first (get_or d.endpoints i nowhere).waiting }
+    record { code = m.code; devices = with_met d i m; bytes = first (slice_index_or d.endpoints i nowhere).waiting }
 
 -- a place past the last endpoint is none: result 14, and nothing changes
 unfoldable pub at_place : (Devices → ℕ → Outcome) → Devices → ℕ → Outcome
