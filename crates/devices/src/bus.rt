@@ -2,7 +2,7 @@
 ghost use Rattle.std.specs.Prelude.{◌≡◌, ◌%◌, [], map, length, if◌then◌else◌, None, nat_lt, slice_index};
 ghost use Rattle.devices.specs.Endpoints.{endpoint_of};
 ghost use Rattle.port.specs.Endpoints.{place, lives};
-ghost use Rattle.port.specs.Devices.{names_endpoint, named_direction, asks_clear, clear_target, clear_place, cleared_at, after_setup, heard_good};
+ghost use Rattle.port.specs.Devices.{names_endpoint, named_direction, clear_target, clear_place, cleared_at, after_setup, heard_good};
 ghost use Rattle.port.specs.Reactions.{out_outcome, in_outcome, setup_met, setup_outcome, hs_code, hs_outcome};
 ghost use Rattle.parts.specs.Records.{inbox_bytes};
 ghost use Rattle.devices.specs.Arrivals.{brings};
@@ -49,28 +49,23 @@ fn byte_at(request: &[u8], place: usize) -> u8
     }
 }
 
-// Whether the eight setup bytes are the clear request, whatever endpoint they name.
-fn asks_clear(request: &[u8]) -> bool
-    ensures { result ≡ asks_clear request.now }
-{
-    byte_at(request, 0) == 0x02
-        && byte_at(request, 1) == 0x01
-        && byte_at(request, 2) == 0
-        && byte_at(request, 3) == 0
-        && byte_at(request, 5) == 0
-        && byte_at(request, 6) == 0
-        && byte_at(request, 7) == 0
-}
-
-// The endpoint byte of eight setup bytes that are the clear request.
+// The endpoint byte of eight setup bytes that are the clear request. A byte that is not there counts as 0.
 fn clear_target(request: &[u8]) -> Option<u8>
     ensures { result ≡ clear_target request.now }
 {
-    let ee = byte_at(request, 4);
-    if asks_clear(request) && names_endpoint(ee) {
-        Some(ee)
-    } else {
-        None
+    let setup = [
+        byte_at(request, 0),
+        byte_at(request, 1),
+        byte_at(request, 2),
+        byte_at(request, 3),
+        byte_at(request, 4),
+        byte_at(request, 5),
+        byte_at(request, 6),
+        byte_at(request, 7),
+    ];
+    match setup {
+        [0x02, 0x01, 0, 0, ee, 0, 0, 0] if names_endpoint(ee) => Some(ee),
+        _ => None,
     }
 }
 

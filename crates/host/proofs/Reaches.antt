@@ -13,7 +13,7 @@ use Rattle.host.specs.Opening.{requesting, clear_start, clear_step, clear_going,
 use Rattle.host.specs.Sending.{sending, send_start, send_packet, send_step, send_going, send_budget, send_run}
 use Rattle.host.specs.Fetching.{fetching, fetch_start, next_room, fetch_step, fetch_going, fetch_budget, fetch_run}
 use Rattle.host.specs.Calls.{open_by, send_by, fetch_by, recover_by}
-use Rattle.host.specs.Laws.{Reached, here, put, get, launch, TriesAreLaunches}
+use Rattle.host.specs.Laws.{Reached, here, put, get, launch, TriesAreLaunches, TriesOfAFetchAreLaunches}
 use Rattle.host.proofs.Runs.{run_keeps}
 use Rattle.std.proofs.lemmas.Bool.{cond_both}
 
@@ -84,7 +84,9 @@ recover_by_reached places b number (Err why) = here
 pub tries_are_launches : TriesAreLaunches
 tries_are_launches places b number = (
   λ message. send_by_reached places b number message (admit_send places number (length message)),
-  λ buffer. fetch_by_reached places b number buffer (admit_fetch places number (length buffer)),
   λ a e d size limit. open_by_reached places b number a e d size limit (open_refusal places number a e d size limit),
   recover_by_reached places b number (admit_recover places number),
 )
+
+pub tries_of_a_fetch_are_launches : TriesOfAFetchAreLaunches
+tries_of_a_fetch_are_launches places b number buffer = fetch_by_reached places b number buffer (admit_fetch places number (length buffer))

@@ -86,15 +86,20 @@ OpenedPipesAreInStep =
     ((address endpoint size limit : ℕ) → open_refusal places number address endpoint Out size limit ≡ None → answer_number (open_done places b number address endpoint Out size limit).answer ≡ 0 → IsInStep (new_pipe address endpoint Out size limit) (open_done places b number address endpoint Out size limit).bus)
     × ((p : Pipe) → admit_recover places number ≡ Ok p → p.direction ≡ Out → Made p → answer_number (recover_done places b number).answer ≡ 0 → IsInStep (recovered places b number p None) (recover_done places b number).bus)
 
--- a call that declines answers with its refusal and nothing else, and leaves table, bus and buffer as they were
+-- a call that declines answers with its refusal and nothing else, and leaves table and bus as they were
 abbrev pub DeclinedCallsChangeNothing : Type 0
 DeclinedCallsChangeNothing =
     (places : Places) (b : Bus) (number : ℕ) →
     ((address endpoint : ℕ) (direction : Direction) (size limit : ℕ) (why : Refusal) → open_refusal places number address endpoint direction size limit ≡ Some why → open_done places b number address endpoint direction size limit ≡ done (declined why) places b)
     × ((message : List ℕ) (why : Refusal) → admit_send places number (length message) ≡ Err why → send_done places b number message ≡ done (declined why) places b)
-    × ((buffer : List ℕ) (why : Refusal) → admit_fetch places number (length buffer) ≡ Err why → fetch_done places b number buffer ≡ brought (declined why) buffer places b)
     × ((why : Refusal) → admit_recover places number ≡ Err why → recover_done places b number ≡ done (declined why) places b)
     × ((why : Refusal) → present places number ≡ Err why → close_done places b number ≡ done (declined why) places b)
+
+-- a fetch that declines likewise, and leaves the buffer too
+abbrev pub DeclinedFetchesChangeNothing : Type 0
+DeclinedFetchesChangeNothing =
+    (places : Places) (b : Bus) (number : ℕ) (buffer : List ℕ) (why : Refusal) →
+    admit_fetch places number (length buffer) ≡ Err why → fetch_done places b number buffer ≡ brought (declined why) buffer places b
 
 -- the bus is reached by register accesses among which are exactly so many launches
 pub data Reached : ℕ → Bus → Bus → Type 0 where
@@ -108,6 +113,10 @@ abbrev pub TriesAreLaunches : Type 0
 TriesAreLaunches =
     (places : Places) (b : Bus) (number : ℕ) →
     ((message : List ℕ) → Reached (send_done places b number message).answer.tries b (send_done places b number message).bus)
-    × ((buffer : List ℕ) → Reached (fetch_done places b number buffer).answer.tries b (fetch_done places b number buffer).bus)
     × ((address endpoint : ℕ) (direction : Direction) (size limit : ℕ) → Reached (open_done places b number address endpoint direction size limit).answer.tries b (open_done places b number address endpoint direction size limit).bus)
     × Reached (recover_done places b number).answer.tries b (recover_done places b number).bus
+
+-- and those of a fetch likewise
+abbrev pub TriesOfAFetchAreLaunches : Type 0
+TriesOfAFetchAreLaunches =
+    (places : Places) (b : Bus) (number : ℕ) (buffer : List ℕ) → Reached (fetch_done places b number buffer).answer.tries b (fetch_done places b number buffer).bus

@@ -1,9 +1,8 @@
 // The host: a port, held by value, beside the pipe table; and its calls, total over any numbers, bytes and buffers.
-ghost use Rattle.std.specs.Prelude.{◌≡◌, ◌≤◌, length, Some, Err};
+ghost use Rattle.std.specs.Prelude.{◌≡◌, ◌≤◌, length, replicate, Some, None, Err};
 ghost use Rattle.pipes.specs.declared.refusals.Refusal.{Refusal as Why};
 ghost use Rattle.pipes.specs.Answers.{declined};
 ghost use Rattle.pipes.specs.Checks.{open_refusal, present, admit_send, admit_fetch, admit_recover};
-ghost use Rattle.pipes.specs.Tables.{unused};
 ghost use Rattle.host.specs.Opening.{clear_run};
 ghost use Rattle.host.specs.Sending.{send_run};
 ghost use Rattle.host.specs.Fetching.{fetch_run};
@@ -39,7 +38,7 @@ impl<P: Port> Host<P> {
     // An unused host: every pipe absent.
     pub fn new(port: P) -> Host<P>
         ensures port { result.port ≡ port }
-        ensures table { result.table.pipes ≡ unused }
+        ensures table { result.table.pipes ≡ replicate 8 None }
     {
         Host {
             port,

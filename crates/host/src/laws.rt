@@ -1,5 +1,5 @@
 // What the calls promise, each on a function of its own: the function does nothing, and its contract is the promise.
-ghost use Rattle.host.specs.Laws.{OpenedPipesAreInStep, SendsKeepStep, SendsAreAccountedFor, AnswersStayWithinTheMessage, SuccessSendsAll, BusyPrintersStayInStep, DeclinedCallsChangeNothing, TriesAreLaunches};
+ghost use Rattle.host.specs.Laws.{OpenedPipesAreInStep, SendsKeepStep, SendsAreAccountedFor, AnswersStayWithinTheMessage, SuccessSendsAll, BusyPrintersStayInStep, DeclinedCallsChangeNothing, DeclinedFetchesChangeNothing, TriesAreLaunches, TriesOfAFetchAreLaunches};
 ghost use Rattle.host.specs.Effects.{RequestsClearOneEndpoint, SendsTouchOneEndpoint, FetchesHandOverTheNextPackets, FetchesKeepTheRestOfTheBuffer};
 
 // An OUT pipe that open makes, or that recover brings back, is in step with its device.
@@ -38,9 +38,19 @@ pub fn a_declined_call_changes_nothing()
     ensures { DeclinedCallsChangeNothing }
 {}
 
+// A fetch that declines changes nothing, and its buffer is as it was.
+pub fn a_declined_fetch_changes_nothing()
+    ensures { DeclinedFetchesChangeNothing }
+{}
+
 // The tries that an answer tells are the launches that the call made.
 pub fn tries_are_the_launches_made()
     ensures { TriesAreLaunches }
+{}
+
+// The tries that the answer of a fetch tells are the launches that it made.
+pub fn tries_of_a_fetch_are_the_launches_made()
+    ensures { TriesOfAFetchAreLaunches }
 {}
 
 // The request that opens and recovers changes no endpoint but the one that it names; no endpoint takes a byte or hands a packet over

@@ -6,7 +6,7 @@ use Rattle.pipes.specs.Checks.{present}
 use Rattle.host.specs.Calls.{close_by}
 use Rattle.host.specs.Effects.{SameEndpoints}
 use Rattle.host.proofs.Names.{same_bus, bus_twice, reached_named}
-use Rattle.host.proofs.Reaches.{tries_are_launches}
+use Rattle.host.proofs.Reaches.{tries_are_launches, tries_of_a_fetch_are_launches}
 use Rattle.service.specs.Asks.{Ask, open_pipe, send_message, fetch_into, recover_pipe, look_at, close_pipe}
 use Rattle.service.specs.Serving.{State, step, at_the_end}
 use Rattle.service.specs.Laws.{NoEndpointComesOrGoes}
@@ -16,10 +16,10 @@ closes s n (Ok p) = same_bus s.bus
 closes s n (Err why) = same_bus s.bus
 
 step_endpoints : (s : State) (ask : Ask) → SameEndpoints s.bus (step s ask).state.bus
-step_endpoints s (open_pipe n a e d size limit) = reached_named ((tries_are_launches s.places s.bus n).2 a e d size limit)
+step_endpoints s (open_pipe n a e d size limit) = reached_named ((tries_are_launches s.places s.bus n).1 a e d size limit)
 step_endpoints s (send_message n message) = reached_named ((tries_are_launches s.places s.bus n).0 message)
-step_endpoints s (fetch_into n buffer) = reached_named ((tries_are_launches s.places s.bus n).1 buffer)
-step_endpoints s (recover_pipe n) = reached_named (tries_are_launches s.places s.bus n).3
+step_endpoints s (fetch_into n buffer) = reached_named (tries_of_a_fetch_are_launches s.places s.bus n buffer)
+step_endpoints s (recover_pipe n) = reached_named (tries_are_launches s.places s.bus n).2
 step_endpoints s (look_at n) = same_bus s.bus
 step_endpoints s (close_pipe n) = closes s n (present s.places n)
 
