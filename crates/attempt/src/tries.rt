@@ -1,5 +1,6 @@
 // The four kinds of try. Each puts the address, sets the toggle where there is one, loads what is to be sent, launches, gets the
-// result, reads what was received, and clears what the launch left set.
+// result, reads what was received, and clears what the launch left set. A try answers with a pair of plain numbers, as R31 has them: every
+// result code can come, and the toggle is one bit.
 ghost use Rattle.std.specs.Prelude.{◌≡◌, [], length, Some, None};
 ghost use Rattle.port.specs.Accesses.{got};
 ghost use Rattle.attempt.specs.Tries.{begun, send_control, receive_control, launched, result_got, out_answer, after_out, stage_answer, after_stage, arrived, room_read, after_read, in_answer, in_arrival, in_room, after_in};
@@ -10,10 +11,11 @@ use port::registers::{
     HCTL, HIRQ, HXFRDN, LAUNCH_HS_IN, LAUNCH_OUT, LAUNCH_SETUP, PERADDR, RCVBC, RCVDAV, RCVFIFO,
     RCVTOG0, RCVTOG1, SETUP_LENGTH, SNDBC, SNDFIFO, SNDTOG0, SNDTOG1, SUDFIFO,
 };
+use port::results::SUCCESS;
 use port::{Port, Toggle};
 
-// What an IN brought.
-#[derive(Clone, Copy, Debug)]
+// What an IN brought: three cases, so neither an `Option` nor a `Result`.
+#[derive(Clone, Copy, Debug, PartialEq, Eq)]
 pub enum Arrival {
     // no packet was received
     Nothing,
@@ -114,11 +116,11 @@ fn read<P: Port>(port: &mut P, room: &mut [u8]) -> Arrival
     ensures bytes { room.new ≡ room_read room.old (P.meaning port.old) }
     ensures after { P.meaning port.new ≡ after_read room.old (P.meaning port.old) }
 {
-    let length = port.get(RCVBC) as usize;
+    let length = usize::from(port.get(RCVBC));
     if length > room.len() {
         return Arrival::TooLong;
     }
-    let front = &mut room[0..length];
+    let front = &mut room[..length];
     port.get_many(RCVFIFO, front);
     Arrival::Read(length)
 }
@@ -140,7 +142,7 @@ pub fn try_in<P: Port>(
     begin(port, address, Some(receive_control(toggle)));
     let status = transact(port, endpoint % 16);
     let answer = (status % 16, status / 16 % 2);
-    if answer.0 != 0 {
+    if answer.0 != SUCCESS {
         port.put(HIRQ, HXFRDN);
         return (answer, Arrival::Nothing);
     }

@@ -2,7 +2,8 @@
 use Rattle.std.proofs.Common.{◌≡◌, ℕ, zero, suc, ◌<◌, ◌≤◌, Bool, true, false, ◌&&◌, eqb, ltb, leb, List, [], ◌∷◌, ◌++◌, length, get_or, set, sym, refl, ap, ◌∙◌, ⊎_elim, arith}
 use Rattle.std.proofs.ByRecursion.{All-get_or, All-set, All-push}
 use Rattle.std.proofs.lemmas.List.{length_push, length-set, get_or_append_left, get_or_push, get_or-set_same, get_or-set_other}
-use Rattle.std.proofs.lemmas.Bool.{and_parts, leb-true, ltb-true, eq-eqb, ne_eqb, cases_eq, cases_lt, cases_Bool}
+use Rattle.std.proofs.lemmas.Bool.Decides.{nat_tests}
+use Rattle.std.proofs.lemmas.Bool.{and_parts, leb-true, ltb-true, cases_eq, cases_lt, cases_Bool}
 use Rattle.port.specs.declared.directions.Direction.{Direction}
 use Rattle.port.specs.declared.directions.Direction.TheVariants.{Out, In}
 use Rattle.port.specs.Directions.{facing}
@@ -13,7 +14,7 @@ use Rattle.devices.specs.Setups.{planned, in_range, vacant, more_waiting, packet
 use Rattle.bench.specs.Laws.{SetUpBusesAreFresh}
 
 eqb_swap : (a b : ℕ) → eqb a b ≡ eqb b a
-eqb_swap a b = ⊎_elim (λ e. eq-eqb a b e ∙ sym (eq-eqb b a (sym e))) (λ ne. ne_eqb a b ne ∙ sym (ne_eqb b a (λ e. ne (sym e)))) (cases_eq a b)
+eqb_swap a b = grind (arith, nat_tests)
 
 facing_swap : (d e : Direction) → facing d e ≡ facing e d
 facing_swap Out Out = refl
@@ -82,17 +83,12 @@ module _ (es : List Endpoint) (formed : WellFormed es) where
 -- the parts of a plan that is in range
 plan_in_range : (p : EndpointPlan) → in_range p ≡ true → InRange (planned p)
 plan_in_range p h =
-    let a = and_parts (leb 1 p.address) _ h in
-    let b = and_parts (leb p.address 127) _ a.1 in
-    let c = and_parts (leb 1 p.number) _ b.1 in
-    let d = and_parts (leb p.number 15) _ c.1 in
-    let e = and_parts (leb p.toggle 1) _ d.1 in
     record {
-      address_above = leb-true 1 p.address a.0;
-      address_most = leb-true p.address 127 b.0;
-      number_above = leb-true 1 p.number c.0;
-      number_most = leb-true p.number 15 d.0;
-      capacity_most = leb-true p.capacity 4096 e.1;
+      address_above = grind (arith, nat_tests);
+      address_most = grind (arith, nat_tests);
+      number_above = grind (arith, nat_tests);
+      number_most = grind (arith, nat_tests);
+      capacity_most = grind (arith, nat_tests);
       taken_most = omega arith;
       packets_most = omega arith;
       packet_most = tt;

@@ -1,5 +1,3 @@
-mod Additions
 mod Arrived
-mod Carriages
 mod Ends
 mod Freshness

@@ -1,3 +1,4 @@
+pub mod Drawn
 pub mod Chips
 pub mod Setups
 pub mod Laws

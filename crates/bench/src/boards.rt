@@ -2,16 +2,23 @@
 // part here.
 ghost use Rattle.std.specs.Prelude.{◌≡◌};
 ghost use Rattle.port.specs.Fates.{Real};
-ghost use Rattle.port.specs.Launches.{outcome_of, ends, ends_plain, held};
+ghost use Rattle.port.specs.Launches.{held};
 ghost use Rattle.port.specs.declared.transactions.Transaction.TheVariants.{Setup, In, Out, HsIn};
 ghost use Rattle.bench.specs.Chips.{Transacted};
+ghost use Rattle.bench.specs.Drawn.{Real-prop};
 ghost use Rattle.parts.specs.Records.{chip_of};
 ghost use Rattle.devices.specs.Devices.{devices_of};
 
 use devices::Devices;
 use parts::ChipRecord;
 use port::{Fate, Transaction};
-use std::alloc::{AllocError, Global};
+
+// A fate that was drawn from a queue: its code, if it has one, is one that the chip can show.
+#[derive(Clone, Copy)]
+pub(crate) struct DrawnFate {
+    pub(crate) fate: Fate,
+    ghost real: { Real fate } by { Real-prop fate },
+}
 
 #[derive(Drop)]
 pub(crate) struct Board {
@@ -20,57 +27,52 @@ pub(crate) struct Board {
 }
 
 impl Board {
-    fn setup(&mut self, fate: Fate)
-        requires { Real fate }
-        ensures { Transacted Setup fate self.old self.new }
+    #[tactic(auto, using(port::proofs::Codes::setup_code_small))]
+    fn setup(&mut self, fate: DrawnFate)
+        ensures { Transacted Setup fate.fate self.old self.new }
     {
         self.chip.make_request();
         let code = self
             .devices
-            .setup(self.chip.address(), fate, self.chip.setup());
+            .setup(self.chip.address(), fate.fate, self.chip.setup());
         self.chip.end_plain(code);
     }
 
-    fn input(&mut self, number: u8, fate: Fate)
-        requires { Real fate }
-        ensures { Transacted (In number) fate self.old self.new }
+    fn input(&mut self, number: u8, fate: DrawnFate)
+        ensures { Transacted (In number) fate.fate self.old self.new }
     {
         let address = self.chip.address();
         let toggle = self.chip.receive_toggle();
-        let code = self
-            .devices
-            .input(address, number, fate, toggle, &mut self.chip.incoming);
+        let code = self.devices.input(address, number, fate.fate, toggle, &mut self.chip.incoming);
         self.chip.end_in(code);
     }
 
-    fn out(&mut self, number: u8, fate: Fate)
-        requires { Real fate }
-        ensures { Transacted (Out number) fate self.old self.new }
+    fn out(&mut self, number: u8, fate: DrawnFate)
+        ensures { Transacted (Out number) fate.fate self.old self.new }
     {
         self.chip.make_packet();
         let toggle = self.chip.send_toggle();
         let code = self.devices.out(
             self.chip.address(),
             number,
-            fate,
+            fate.fate,
             toggle,
             self.chip.sending(),
         );
         self.chip.end_out(code);
     }
 
-    fn handshake(&mut self, fate: Fate)
-        requires { Real fate }
-        ensures { Transacted HsIn fate self.old self.new }
+    #[tactic(auto, using(port::proofs::Codes::hs_code_small))]
+    fn handshake(&mut self, fate: DrawnFate)
+        ensures { Transacted HsIn fate.fate self.old self.new }
     {
-        let code = self.devices.handshake(self.chip.address(), fate);
+        let code = self.devices.handshake(self.chip.address(), fate.fate);
         self.chip.end_plain(code);
     }
 
     // A legal transaction under a fate.
-    pub(crate) fn transact(&mut self, transaction: Transaction, fate: Fate)
-        requires { Real fate }
-        ensures { Transacted transaction fate self.old self.new }
+    pub(crate) fn transact(&mut self, transaction: Transaction, fate: DrawnFate)
+        ensures { Transacted transaction fate.fate self.old self.new }
     {
         match transaction {
             Transaction::Setup => self.setup(fate),
@@ -84,9 +86,6 @@ impl Board {
     pub(crate) fn holds(&self, transaction: Transaction) -> bool
         ensures { result ≡ held transaction (chip_of self.now.chip) }
     {
-        match transaction {
-            Transaction::In(_) => self.chip.holds_packet(),
-            _ => false,
-        }
+        matches!(transaction, Transaction::In(_)) && self.chip.holds_packet()
     }
 }

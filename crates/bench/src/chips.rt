@@ -7,10 +7,11 @@ ghost use Rattle.devices.specs.Setups.{planned, more_endpoints, packet_fits, pac
 ghost use Rattle.bench.specs.Chips.{bus_of, empty_bus};
 ghost use Rattle.bench.specs.Setups.{SetsUp, plan_fits, more_fates, with_devices};
 
-use crate::boards::Board;
+use crate::boards::{Board, DrawnFate};
 use devices::{DeviceEndpoint, Devices, EndpointPlan, SetupError};
 use parts::{ChipRecord, FateQueue};
 use port::registers::{HCTL, HIRQ, HRSL, HXFR, PERADDR, RCVBC, RCVFIFO, SNDBC, SNDFIFO, SUDFIFO};
+use port::results::BAD_REQUEST;
 use port::{Fate, Port, Transaction};
 use std::alloc::{AllocError, Global};
 
@@ -22,17 +23,17 @@ pub struct BenchChip {
 
 impl BenchChip {
     // A fresh chip on a bus without devices, and no fates.
-    pub fn new(heap: Global) -> Result<BenchChip, AllocError>
+    pub fn new(alloc: Global) -> Result<BenchChip, AllocError>
         ensures { IfOk result (λ b. bus_of b ≡ empty_bus) }
     {
-        let chip = ChipRecord::new(heap)?;
+        let chip = ChipRecord::new(alloc)?;
         let board = Board {
             chip,
-            devices: Devices::new(heap),
+            devices: Devices::new(alloc),
         };
         Ok(BenchChip {
             board,
-            fates: FateQueue::new(heap),
+            fates: FateQueue::new(alloc),
         })
     }
 
@@ -54,10 +55,8 @@ impl BenchChip {
     pub fn add_fates(&mut self, bytes: &[u8]) -> Result<(), SetupError>
         ensures { SetsUp true (more_fates bytes.now (bus_of self.old)) self.old result self.new }
     {
-        match self.fates.add(bytes) {
-            Ok(()) => Ok(()),
-            Err(_) => Err(SetupError::NoMemory),
-        }
+        self.fates.add(bytes)?;
+        Ok(())
     }
 
     // The endpoints, in the order in which they were set up.
@@ -82,12 +81,13 @@ impl BenchChip {
     }
 
     // A put to R30.
+    #[tactic(auto, unfolding(port::specs::Launches::launch))]
     fn launch(&mut self, value: u8)
         ensures { bus_of self.new ≡ launch value (bus_of self.old) }
     {
-        match Transaction::read(value) {
-            Some(transaction) => self.start(transaction),
-            None => self.refuse(),
+        match Transaction::try_from(value) {
+            Ok(transaction) => self.start(transaction),
+            Err(_) => self.refuse(),
         }
     }
 
@@ -103,24 +103,29 @@ impl BenchChip {
     }
 
     // A legal launch takes one fate.
+    #[tactic(auto, using(port::proofs::Codes::next_real), unfolding(port::specs::Launches::carried))]
     fn carry(&mut self, transaction: Transaction)
         ensures { bus_of self.new ≡ carried transaction (bus_of self.old) }
     {
-        let fate = self.fates.take();
+        let fate = DrawnFate {
+            fate: self.fates.take(),
+        };
         self.board.transact(transaction, fate);
     }
 
     // An illegal one takes none.
+    #[tactic(auto, unfolding(port::specs::Launches::refused))]
     fn refuse(&mut self)
         ensures { bus_of self.new ≡ refused (bus_of self.old) }
     {
-        self.board.chip.end_plain(2);
+        self.board.chip.end_plain(BAD_REQUEST);
     }
 }
 
 impl Port for BenchChip {
     ghost meaning = { bus_of };
 
+    #[tactic(auto, unfolding(port::specs::Accesses::after_put))]
     fn put(&mut self, register: u8, value: u8) {
         match register {
             SNDFIFO => self.board.chip.load_sending(value),
@@ -134,6 +139,7 @@ impl Port for BenchChip {
         }
     }
 
+    #[tactic(auto, unfolding(port::specs::Accesses::got, port::specs::Accesses::after_get))]
     fn get(&mut self, register: u8) -> u8 {
         match register {
             RCVFIFO => self.board.chip.take_incoming(),

@@ -1,2 +1,2 @@
-mod Offers
+mod Places
 mod Rows

@@ -12,9 +12,9 @@ packet_bytes p = vec_items p.bytes
 abbrev pub endpoint_of : DeviceEndpoint → Endpoint
 endpoint_of e =
     record {
-      address = e.address;
-      number = e.number;
-      direction = e.direction;
+      address = e.spot.address;
+      number = e.spot.number;
+      direction = e.spot.direction;
       toggle = e.toggle;
       halted = e.halted;
       capacity = room_size e.taken;

@@ -1,5 +1,5 @@
 -- Setting up the devices of a bus: what each call adds, when it refuses, and what it then leaves. Assumes nothing.
-use Rattle.std.specs.Prelude.{◌≡◌, ℕ, Bool, true, false, ◌&&◌, List, [], ◌∷◌, ◌++◌, length, Some, None, Ok, Err, Option, Result, nat_le, nat_lt, slice_index_or, slice_set}
+use Rattle.std.specs.Prelude.{◌≡◌, ℕ, Bool, true, false, ◌&&◌, List, [], ◌∷◌, ◌++◌, length, Some, None, Ok, Err, Option, Result, codes, nat_le, nat_lt, slice_index_or, slice_set}
 use Rattle.port.specs.declared.directions.Direction.TheVariants.{In}
 use Rattle.port.specs.Toggles.{toggle_of}
 use Rattle.port.specs.Endpoints.{Endpoint, with_state, nowhere, place}
@@ -14,6 +14,11 @@ use Rattle.devices.specs.Devices.{devices_of}
 abbrev pub error_number : SetupError → Option ℕ
 error_number Refused = Some 18
 error_number NoMemory = None
+
+-- what is printed of it
+abbrev pub error_text : SetupError → List ℕ
+error_text Refused = codes "the bench refused a set-up"
+error_text NoMemory = codes "no memory for the bench"
 
 -- the endpoint that a plan describes
 abbrev pub planned : EndpointPlan → Endpoint

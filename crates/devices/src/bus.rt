@@ -1,17 +1,21 @@
 // The devices on the bench bus, and how they react to a transaction under a given fate. Where fates come from plays no part here.
-ghost use Rattle.std.specs.Prelude.{◌≡◌, ◌%◌, [], map, length, if◌then◌else◌, None, nat_lt, slice_index};
+ghost use Rattle.std.specs.Prelude.{◌≡◌, ◌%◌, [], map, length, if◌then◌else◌, None, nat_lt};
 ghost use Rattle.devices.specs.Endpoints.{endpoint_of};
 ghost use Rattle.port.specs.Endpoints.{place, lives};
 ghost use Rattle.port.specs.Devices.{names_endpoint, named_direction, clear_target, clear_place, cleared_at, after_setup, heard_good};
 ghost use Rattle.port.specs.Reactions.{out_outcome, in_outcome, setup_met, setup_outcome, hs_code, hs_outcome};
 ghost use Rattle.parts.specs.Records.{inbox_bytes};
 ghost use Rattle.devices.specs.Arrivals.{brings};
-ghost use Rattle.devices.specs.Devices.{devices_of, endpoints_of};
+ghost use Rattle.devices.specs.Devices.{devices_of, endpoints_of, FindsPlace};
 
 use crate::endpoints::DeviceEndpoint;
+use crate::spots::Spot;
 use parts::Inbox;
+use port::registers::SETUP_LENGTH;
+use port::results::{NAK, NO_ANSWER, STALL, SUCCESS};
 use port::{Direction, Fate, Heard, Toggle};
 use std::alloc::Global;
+use std::array;
 
 mod setups;
 
@@ -25,7 +29,7 @@ pub struct Devices {
 fn names_endpoint(ee: u8) -> bool
     ensures { result ≡ names_endpoint ee }
 {
-    (1 <= ee && ee <= 15) || (0x81 <= ee && ee <= 0x8f)
+    matches!(ee, 1..=15 | 0x81..=0x8f)
 }
 
 fn named_direction(ee: u8) -> Direction
@@ -38,31 +42,14 @@ fn named_direction(ee: u8) -> Direction
     }
 }
 
-// The byte at this place, 0 where the request is shorter.
-fn byte_at(request: &[u8], place: usize) -> u8
-    ensures { result ≡ slice_index request.now place }
-{
-    if place < request.len() {
-        request[place]
-    } else {
-        0
-    }
-}
-
 // The endpoint byte of eight setup bytes that are the clear request. A byte that is not there counts as 0.
 fn clear_target(request: &[u8]) -> Option<u8>
     ensures { result ≡ clear_target request.now }
 {
-    let setup = [
-        byte_at(request, 0),
-        byte_at(request, 1),
-        byte_at(request, 2),
-        byte_at(request, 3),
-        byte_at(request, 4),
-        byte_at(request, 5),
-        byte_at(request, 6),
-        byte_at(request, 7),
-    ];
+    let setup: [u8; SETUP_LENGTH] = array::from_fn(|place| request
+        .get(place)
+        .copied()
+        .unwrap_or(0));
     match setup {
         [0x02, 0x01, 0, 0, ee, 0, 0, 0] if names_endpoint(ee) => Some(ee),
         _ => None,
@@ -71,11 +58,11 @@ fn clear_target(request: &[u8]) -> Option<u8>
 
 impl Devices {
     // No devices, and no setup heard.
-    pub fn new(heap: Global) -> Devices
+    pub fn new(alloc: Global) -> Devices
         ensures { devices_of result ≡ record { endpoints = []; heard = None } }
     {
         Devices {
-            endpoints: Vec::new(heap),
+            endpoints: Vec::new(alloc),
             heard: None,
         }
     }
@@ -86,43 +73,38 @@ impl Devices {
         self.endpoints.as_slice()
     }
 
-    // The place of an endpoint, or the number of endpoints where there is none.
-    fn place(&self, address: u8, number: u8, direction: Direction) -> usize
-        ensures { result ≡ place address number direction (endpoints_of self.now) }
+    // The place of the endpoint at this spot.
+    fn place(&self, spot: Spot) -> Option<usize>
+        ensures { FindsPlace (place spot.address spot.number spot.direction (endpoints_of self.now)) (endpoints_of self.now) result }
     {
-        for (i, endpoint) in self.endpoints.iter().enumerate() {
-            if endpoint.stands_at(address, number, direction) {
-                return i;
-            }
-        }
-        self.endpoints.len()
+        self.endpoints
+            .iter()
+            .position(|endpoint| endpoint.stands_at(spot))
     }
 
     // Whether some device answers at this address.
     fn lives(&self, address: u8) -> bool
         ensures { result ≡ lives address (endpoints_of self.now) }
     {
-        for endpoint in self.endpoints.iter() {
-            if endpoint.has_address(address) {
-                return true;
-            }
-        }
-        false
+        self.endpoints
+            .iter()
+            .any(|endpoint| endpoint.has_address(address))
     }
 
     // OUT: 14 where there is no such endpoint.
+    #[tactic(auto, using(crate::proofs::Rows::rows), unfolding(port::specs::Reactions::at_place))]
     pub fn out(&mut self, address: u8, number: u8, fate: Fate, toggle: Toggle, bytes: &[u8]) -> u8
         ensures code { result ≡ (out_outcome address fate (devices_of self.old) number toggle bytes.now).code }
         ensures after { devices_of self.new ≡ (out_outcome address fate (devices_of self.old) number toggle bytes.now).devices }
     {
-        let i = self.place(address, number, Direction::Out);
-        if i >= self.endpoints.len() {
-            return 14;
-        }
+        let Some(i) = self.place(Spot::new(address, number, Direction::Out)) else {
+            return NO_ANSWER;
+        };
         self.endpoints[i].out(fate, toggle, bytes)
     }
 
     // IN: 14 where there is no such endpoint. Where it brings a packet, the receive buffer holds it.
+    #[tactic(auto, using(crate::proofs::Rows::rows), unfolding(port::specs::Reactions::at_place))]
     pub fn input(
         &mut self,
         address: u8,
@@ -135,38 +117,35 @@ impl Devices {
         ensures after { devices_of self.new ≡ (in_outcome address fate (devices_of self.old) number toggle).devices }
         ensures bytes { inbox_bytes into.new ≡ (if brings fate result then (in_outcome address fate (devices_of self.old) number toggle).bytes else inbox_bytes into.old) }
     {
-        let i = self.place(address, number, Direction::In);
-        if i >= self.endpoints.len() {
-            return 14;
-        }
+        let Some(i) = self.place(Spot::new(address, number, Direction::In)) else {
+            return NO_ANSWER;
+        };
         self.endpoints[i].input(fate, toggle, into)
     }
 
-    // Clears the endpoint that the byte names. Whether it is there.
-    fn clear(&mut self, address: u8, ee: u8) -> bool
-        ensures found { result ≡ nat_lt (place address (ee % 16) (named_direction ee) (endpoints_of self.old)) (length (endpoints_of self.old)) }
-        ensures after { devices_of self.new ≡ cleared_at (place address (ee % 16) (named_direction ee) (endpoints_of self.old)) (devices_of self.old) }
-    {
-        let i = self.place(address, ee % 16, named_direction(ee));
-        if i >= self.endpoints.len() {
-            return false;
-        }
-        self.endpoints[i].clear();
-        true
-    }
-
     // Does what the eight setup bytes ask. Whether that was possible.
+    #[tactic(auto, using(crate::proofs::Rows::rows))]
     fn obey(&mut self, address: u8, request: &[u8]) -> bool
         ensures found { result ≡ nat_lt (clear_place address request.now (endpoints_of self.old)) (length (endpoints_of self.old)) }
         ensures after { devices_of self.new ≡ cleared_at (clear_place address request.now (endpoints_of self.old)) (devices_of self.old) }
     {
-        match clear_target(request) {
-            Some(ee) => self.clear(address, ee),
-            None => false,
-        }
+        let Some(i) = self.target(address, request) else {
+            return false;
+        };
+        self.endpoints[i].clear();
+        true
+    }
+
+    // The place of the endpoint that the eight setup bytes ask to clear.
+    fn target(&self, address: u8, request: &[u8]) -> Option<usize>
+        ensures { FindsPlace (clear_place address request.now (endpoints_of self.now)) (endpoints_of self.now) result }
+    {
+        let ee = clear_target(request)?;
+        self.place(Spot::new(address, ee % 16, named_direction(ee)))
     }
 
     // Eight setup bytes that reached the device at this address.
+    #[tactic(auto, unfolding(port::specs::Devices::after_setup))]
     fn hear(&mut self, address: u8, request: &[u8])
         ensures { devices_of self.new ≡ after_setup address request.now (devices_of self.old) }
     {
@@ -182,25 +161,25 @@ impl Devices {
         match fate {
             Fate::Arrives => {
                 self.hear(address, request);
-                0
+                SUCCESS
             }
             Fate::Lost(code) => code,
             Fate::Unheard(code) => {
                 self.hear(address, request);
                 code
             }
-            Fate::Nak => 14,
-            Fate::Stall => 14,
+            Fate::Nak | Fate::Stall => NO_ANSWER,
         }
     }
 
     // SETUP: 14 where no device has the address.
+    #[tactic(auto, unfolding(port::specs::Reactions::at_address))]
     pub fn setup(&mut self, address: u8, fate: Fate, request: &[u8]) -> u8
         ensures code { result ≡ (setup_outcome address fate (devices_of self.old) request.now).code }
         ensures after { devices_of self.new ≡ (setup_outcome address fate (devices_of self.old) request.now).devices }
     {
         if !self.lives(address) {
-            return 14;
+            return NO_ANSWER;
         }
         self.answer_setup(address, fate, request)
     }
@@ -209,10 +188,8 @@ impl Devices {
     fn heard_good(&self, address: u8) -> bool
         ensures { result ≡ heard_good address self.now.heard }
     {
-        match self.heard {
-            Some(heard) => heard.address == address && heard.good,
-            None => false,
-        }
+        self.heard
+            .is_some_and(|heard| heard.address == address && heard.good)
     }
 
     // An HS-IN that the devices at this address may hear.
@@ -220,21 +197,21 @@ impl Devices {
         ensures { result ≡ hs_code address (devices_of self.now) fate }
     {
         match fate {
-            Fate::Arrives => if self.heard_good(address) { 0 } else { 5 },
+            Fate::Arrives | Fate::Unheard(_) if self.heard_good(address) => SUCCESS,
+            Fate::Arrives | Fate::Unheard(_) | Fate::Stall => STALL,
             Fate::Lost(code) => code,
-            Fate::Unheard(_) => if self.heard_good(address) { 0 } else { 5 },
-            Fate::Nak => 4,
-            Fate::Stall => 5,
+            Fate::Nak => NAK,
         }
     }
 
     // HS-IN: 14 where no device has the address. Nothing on a device changes.
+    #[tactic(auto, unfolding(port::specs::Reactions::at_address))]
     pub fn handshake(&self, address: u8, fate: Fate) -> u8
         ensures code { result ≡ (hs_outcome address fate (devices_of self.now)).code }
         ensures same { devices_of self.now ≡ (hs_outcome address fate (devices_of self.now)).devices }
     {
         if !self.lives(address) {
-            return 14;
+            return NO_ANSWER;
         }
         self.answer_handshake(address, fate)
     }

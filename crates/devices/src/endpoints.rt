@@ -1,7 +1,8 @@
 // One endpoint of a device on the bench.
 use crate::packets::Packet;
+use crate::spots::Spot;
 use parts::Room;
-use port::{Direction, Toggle};
+use port::Toggle;
 use std::collections::VecDeque;
 
 mod methods;
@@ -11,9 +12,7 @@ pub use views::EndpointState;
 
 #[derive(Drop)]
 pub struct DeviceEndpoint {
-    address: u8,
-    number: u8,
-    direction: Direction,
+    spot: Spot,
     toggle: Toggle,
     halted: bool,
     // its size is the endpoint's capacity

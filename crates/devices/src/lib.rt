@@ -5,6 +5,7 @@ pub mod bus;
 pub mod endpoints;
 mod packets;
 pub mod plans;
+mod spots;
 
 pub use bus::Devices;
 pub use endpoints::{DeviceEndpoint, EndpointState};

@@ -1,16 +1,17 @@
 -- One frame more of a many-access, from the front. Assumes nothing.
-use Rattle.std.proofs.Common.{◌≡◌, ℕ, zero, suc, ◌+◌, ◌-◌, ◌<◌, ◌≤◌, min, leb, List, [], ◌∷◌, ◌++◌, map, length, take, drop, replicate, sym, refl, ap, ◌∙◌, subst, ⊎_elim, append_assoc, arith}
+use Rattle.std.proofs.Common.{◌≡◌, ℕ, zero, suc, ◌+◌, ◌-◌, ◌<◌, ◌≤◌, min, leb, List, [], ◌∷◌, ◌++◌, map, length, take, drop, replicate, sym, refl, ap, ◌∙◌, subst, append_assoc, append-nil, arith}
 use borrow.Rule.Slice.PartMut.{put_mid}
-use Rattle.std.proofs.lemmas.List.{take_all, drop_all, drop-drop, length-drop, length-append, length-take-le, length-replicate, take-replicate, drop-replicate, at_drop_all}
-use Rattle.std.proofs.lemmas.Slice.{take-put_mid}
-use Rattle.std.proofs.lemmas.Bool.{cases_lt, cases_Bool, cond-true, cond-false, le-leb, lt-leb}
+use Rattle.std.proofs.lemmas.List.{take_all, nil_from_length, length-drop, length-take-le}
+use Rattle.std.proofs.lemmas.Grind.{common_steps}
+use Rattle.std.proofs.lemmas.Bool.{cond-true, le-leb}
 use Rattle.port.specs.Bus.{Bus}
-use Rattle.port.specs.Accesses.{after_put, got, after_get, after_puts, gots, after_gets}
-use Rattle.frames.specs.Asked.{Asked}
-use Rattle.frames.specs.Format.{command_of, register_of, body_of}
+use Rattle.port.specs.Accesses.{after_put, after_get, after_puts, gots, after_gets}
+use Rattle.frames.specs.Asked.{Asked, puts, gets}
+use Rattle.frames.specs.Format.{put_command, get_command, command_of, register_of, body_of}
 use Rattle.frames.specs.Pieces.{frame_size, cut, pieces, row, frames_of}
-use Rattle.frames.specs.Registers.{stays_at}
 use Rattle.frames.specs.Chains.{Chain}
+use Rattle.frames.proofs.Commands.{zeros_length, zeros_parts}
+use Rattle.frames.proofs.Carrying.{some_fit}
 
 -- whatever chain of the frames that are left there is, it ends a chain of all
 abbrev pub Leads : {W : Type 0} → (W → List ℕ → W → Type 0) → List (List ℕ) → W → List (List ℕ) → W → Type 0
@@ -25,135 +26,127 @@ cut_enough (suc n) zero size [] s h k = refl
 cut_enough (suc n) zero size (x ∷ xs) s h k = absurd (omega arith)
 cut_enough (suc n) (suc m) size [] s h k = refl
 cut_enough (suc n) (suc m) size (x ∷ xs) s h k =
-    let l = length-drop size (x ∷ xs) in
-    ap (λ ps. take size (x ∷ xs) ∷ ps) (cut_enough n m size (drop size (x ∷ xs)) s (omega arith) (omega arith))
+    rw (cut_enough n m size (drop size (x ∷ xs)) s (simp length-drop (omega arith)) (simp length-drop (omega arith)))
 
 pub pieces_more : (size : ℕ) (xs : List ℕ) → 0 < size → 0 < length xs → pieces size xs ≡ take size xs ∷ pieces size (drop size xs)
 pieces_more size [] s h = absurd (omega arith)
 pieces_more size (x ∷ xs) s h =
-    let l = length-drop size (x ∷ xs) in
-    ap (λ ps. take size (x ∷ xs) ∷ ps) (cut_enough (length xs) (length (drop size (x ∷ xs))) size (drop size (x ∷ xs)) s (omega arith) (omega arith))
+    rw (cut_enough (length xs) (length (drop size (x ∷ xs))) size (drop size (x ∷ xs)) s (simp length-drop (omega arith)) (omega arith))
 
--- a cut at the end of a list is a cut at any place past it
-take_min : (size n : ℕ) (xs : List ℕ) → n ≡ min size (length xs) → take n xs ≡ take size xs
-take_min size n xs e =
-    ⊎_elim
-    (λ lt. ap (λ k. take k xs) (let z : n ≡ size = omega arith in z))
-    (λ le. take_all n xs (omega arith) ∙ sym (take_all size xs le))
-    (cases_lt size (length xs))
+-- a piece in front that is full, or all that there is
+pub first_piece : (size : ℕ) (piece rest xs : List ℕ) → 0 < size → 0 < length xs → xs ≡ piece ++ rest → length piece ≡ min size (length xs) → pieces size xs ≡ piece ∷ pieces size rest
+first_piece size piece rest xs some h e l =
+    let front : take size xs ≡ piece = grind (arith, common_steps) in
+    let back : drop size xs ≡ rest = grind (arith, common_steps) in
+    rw (pieces_more size xs some h, front, back)
 
-drop_min : (size n : ℕ) (xs : List ℕ) → n ≡ min size (length xs) → drop n xs ≡ drop size xs
-drop_min size n xs e =
-    ⊎_elim
-    (λ lt. ap (λ k. drop k xs) (let z : n ≡ size = omega arith in z))
-    (λ le. drop_all n xs (omega arith) ∙ sym (drop_all size xs le))
-    (cases_lt size (length xs))
-
--- the frames: one was heard, and those of what is left follow
 module _ {W : Type 0} (heard : W → List ℕ → W → Type 0) (command size : ℕ) (some : 0 < size) where
-  row_more : (xs : List ℕ) (n : ℕ) → 0 < length xs → n ≡ min size (length xs) → (command ∷ take n xs) ∷ row command size (drop n xs) ≡ row command size xs
-  row_more xs n h e =
-      ap (λ p. (command ∷ p) ∷ row command size (drop n xs)) (take_min size n xs e)
-      ∙ ap (λ d. (command ∷ take size xs) ∷ row command size d) (drop_min size n xs e)
-      ∙ sym (ap (map (λ p. command ∷ p)) (pieces_more size xs some h))
-
-  chain_more : (xs : List ℕ) (n : ℕ) (w m last : W) → 0 < length xs → n ≡ min size (length xs) → heard w (command ∷ take n xs) m → Chain heard (row command size (drop n xs)) m last → Chain heard (row command size xs) w last
-  chain_more xs n w m last h e one rest = subst (λ (fs : List (List ℕ)). Chain heard fs w last) (row_more xs n h e) (m, one, rest)
-
-  -- of the bytes to put, those from i on
-  pub puts_chain : (bytes : List ℕ) (i n : ℕ) (w m last : W) → i < length bytes → n ≡ min size (length bytes - i) → heard w (command ∷ take (i + n - i) (drop i bytes)) m → Chain heard (row command size (drop (i + n) bytes)) m last → Chain heard (row command size (drop i bytes)) w last
-  puts_chain bytes i n w m last h e one rest =
-      let l = length-drop i bytes in
-      chain_more (drop i bytes) n w m last (omega arith) (omega arith)
-      (subst (λ (k : ℕ). heard w (command ∷ take k (drop i bytes)) m) (let z : i + n - i ≡ n = omega arith in z) one)
-      (subst (λ (d : List ℕ). Chain heard (row command size d) m last) (sym (drop-drop n i bytes)) rest)
-
-  -- of the bytes to get, those from i on
-  pub gets_chain : (total total' i n l : ℕ) (w m last : W) → i < total → n ≡ min size (total - i) → l ≡ n → total' ≡ total → heard w (command ∷ replicate l 0) m → Chain heard (row command size (replicate (total' - (i + n)) 0)) m last → Chain heard (row command size (replicate (total - i) 0)) w last
-  gets_chain total total' i n l w m last h e same kept one rest =
-      let len : length (replicate {A = ℕ} (total - i) 0) ≡ total - i = length-replicate (total - i) 0 in
-      chain_more (replicate (total - i) 0) n w m last (omega arith) (omega arith)
-      (subst (λ (p : List ℕ). heard w (command ∷ p) m) (ap (λ k. replicate k 0) same ∙ sym (take-replicate n (total - i) 0 (omega arith))) one)
-      (subst (λ (d : List ℕ). Chain heard (row command size d) m last) (ap (λ k. replicate k 0) (let z : total' - (i + n) ≡ total - i - n = omega arith in z) ∙ sym (drop-replicate n (total - i) 0)) rest)
+  -- one frame was heard, and those of what is left follow
+  pub leads_more : (xs piece rest : List ℕ) (w m : W) (all : List (List ℕ)) (start : W) → 0 < length xs → xs ≡ piece ++ rest → length piece ≡ min size (length xs) → heard w (command ∷ piece) m → Leads heard (row command size xs) w all start → Leads heard (row command size rest) m all start
+  leads_more xs piece rest w m all start h e l one lead last chain =
+      lead last (subst (λ (fs : List (List ℕ)). Chain heard fs w last) (sym (ap (map (λ p. command ∷ p)) (first_piece size piece rest xs some h e l))) (m, one, chain))
 
   -- no frame is left
-  pub puts_chain_end : (bytes : List ℕ) (i : ℕ) (w : W) → length bytes ≤ i → Chain heard (row command size (drop i bytes)) w w
-  puts_chain_end bytes i w h = subst (λ (d : List ℕ). Chain heard (row command size d) w w) (sym (drop_all i bytes h)) refl
-
-  pub gets_chain_end : (k : ℕ) (w : W) → k ≡ 0 → Chain heard (row command size (replicate k 0)) w w
-  gets_chain_end k w e = subst (λ (j : ℕ). Chain heard (row command size (replicate j 0)) w w) (sym e) refl
+  pub leads_all : (xs : List ℕ) (w : W) (all : List (List ℕ)) (start : W) → length xs ≡ 0 → Leads heard (row command size xs) w all start → Chain heard all start w
+  leads_all [] w all start h lead = lead w refl
+  leads_all (x ∷ xs) w all start h lead = absurd (omega arith)
 
 -- the port's meaning: a many-access in two parts
 module _ (r : ℕ) where
-  puts_parts : (n : ℕ) (xs : List ℕ) (b : Bus) → after_puts r (drop n xs) (after_puts r (take n xs) b) ≡ after_puts r xs b
-  puts_parts zero xs b = refl
-  puts_parts (suc n) [] b = refl
-  puts_parts (suc n) (x ∷ xs) b = puts_parts n xs (after_put r x b)
+  pub puts_parts : (xs ys : List ℕ) (b : Bus) → after_puts r (xs ++ ys) b ≡ after_puts r ys (after_puts r xs b)
+  puts_parts [] ys b = refl
+  puts_parts (x ∷ xs) ys b = puts_parts xs ys (after_put r x b)
 
-  pub puts_after : (bytes : List ℕ) (i n : ℕ) (b b' last : Bus) → b' ≡ after_puts r (take (i + n - i) (drop i bytes)) b → after_puts r (drop i bytes) b ≡ last → after_puts r (drop (i + n) bytes) b' ≡ last
-  puts_after bytes i n b b' last e inv =
-      ap (after_puts r (drop (i + n) bytes)) (e ∙ ap (λ k. after_puts r (take k (drop i bytes)) b) (let z : i + n - i ≡ n = omega arith in z))
-      ∙ ap (λ d. after_puts r d (after_puts r (take n (drop i bytes)) b)) (sym (drop-drop n i bytes))
-      ∙ puts_parts n (drop i bytes) b
-      ∙ inv
-
-  pub puts_after_end : (bytes : List ℕ) (i : ℕ) (b last : Bus) → length bytes ≤ i → after_puts r (drop i bytes) b ≡ last → b ≡ last
-  puts_after_end bytes i b last h inv = sym (at_drop_all (λ left. after_puts r left b) bytes i h) ∙ inv
-
-  gets_parts : (n a c : ℕ) (b : Bus) → n ≡ a + c → after_gets r n b ≡ after_gets r c (after_gets r a b)
-  gets_parts n zero c b e = ap (λ k. after_gets r k b) (let z : n ≡ c = omega arith in z)
+  gets_parts : (n a c : ℕ) (b : Bus) → n ≡ a + c → (gots r n b ≡ gots r a b ++ gots r c (after_gets r a b)) × (after_gets r n b ≡ after_gets r c (after_gets r a b))
+  gets_parts n zero c b e = let same : n ≡ c = omega arith in rw same (refl, refl)
   gets_parts zero (suc a) c b e = absurd (omega arith)
-  gets_parts (suc n) (suc a) c b e = gets_parts n a c (after_get r b) (omega arith)
+  gets_parts (suc n) (suc a) c b e = let more = gets_parts n a c (after_get r b) (omega arith) in (rw more.0, more.1)
 
-  gots_parts : (n a c : ℕ) (b : Bus) → n ≡ a + c → gots r n b ≡ gots r a b ++ gots r c (after_gets r a b)
-  gots_parts n zero c b e = ap (λ k. gots r k b) (let z : n ≡ c = omega arith in z)
-  gots_parts zero (suc a) c b e = absurd (omega arith)
-  gots_parts (suc n) (suc a) c b e = ap (λ l. got r b ∷ l) (gots_parts n a c (after_get r b) (omega arith))
+pub gots_length : (r n : ℕ) (b : Bus) → length (gots r n b) ≡ n
+gots_length r zero b = refl
+gots_length r (suc n) b = ap suc (gots_length r n (after_get r b))
 
-  pub gets_after : (total total' i n l : ℕ) (b b' last : Bus) → i + n ≤ total → total' ≡ total → l ≡ n → b' ≡ after_gets r l b → after_gets r (total - i) b ≡ last → after_gets r (total' - (i + n)) b' ≡ last
-  gets_after total total' i n l b b' last h kept same e inv =
-      ap (after_gets r (total' - (i + n))) (e ∙ ap (λ k. after_gets r k b) same)
-      ∙ sym (gets_parts (total - i) n (total' - (i + n)) b (omega arith))
-      ∙ inv
+-- the front of a slice, after a write to its part from i to e
+module _ (i e : ℕ) (into part : List ℕ) (l : length part ≡ e - i) where
+  length_written : i ≤ e → e ≤ length into → length (put_mid i (e - i) into part) ≡ length into
+  length_written h k = grind (arith, common_steps)
 
-  pub gots_after : (into part : List ℕ) (total' i n l : ℕ) (b b' : Bus) (all : List ℕ) → i + n ≤ length into → total' ≡ length into → l ≡ n → length part ≡ n → part ≡ gots r l b → b' ≡ after_gets r l b → take i into ++ gots r (length into - i) b ≡ all → take (i + n) (put_mid i (i + n - i) into part) ++ gots r (total' - (i + n)) b' ≡ all
-  gots_after into part total' i n l b b' all h kept same len v e inv =
-      ap (λ front. front ++ gots r (total' - (i + n)) b') (take-put_mid i (i + n - i) into part (i + n) (omega arith) (omega arith))
-      ∙ append_assoc (take i into) part (gots r (total' - (i + n)) b')
-      ∙ ap (λ p. take i into ++ (p ++ gots r (total' - (i + n)) b')) (v ∙ ap (λ k. gots r k b) same)
-      ∙ ap (λ c. take i into ++ (gots r n b ++ gots r (total' - (i + n)) c)) (e ∙ ap (λ k. after_gets r k b) same)
-      ∙ ap (λ g. take i into ++ g) (sym (gots_parts (length into - i) n (total' - (i + n)) b (omega arith)))
-      ∙ inv
+  front_written : (j : ℕ) → i < length into → i < j → e ≡ min (length into) j → take j (put_mid i (e - i) into part) ≡ take i into ++ part
+  front_written j h k m = grind (arith, common_steps)
 
--- a part of a slice that is written keeps the slice's length
-pub length_written : (a k : ℕ) (xs ys : List ℕ) → a + k ≤ length xs → length ys ≡ k → length (put_mid a k xs ys) ≡ length xs
-length_written a k xs ys h e =
-    let one = length-append (take a xs) (ys ++ drop k (drop a xs)) in
-    let two = length-append ys (drop k (drop a xs)) in
-    let three = length-drop k (drop a xs) in
-    let four = length-drop a xs in
-    let five = length-take-le a xs (omega arith) in
-    omega arith
+-- the first i of n bytes from a register: where the port and the slice stand, and which frames were heard
+pub record Fetched {W : Type 0} (meaning : W → Bus) (heard : W → List ℕ → W → Type 0) (r n : ℕ) (first : W) (i : ℕ) (into : List ℕ) (w : W) : Type 0 where
+  pub kept : length into ≡ n
+  pub after : after_gets r (n - i) (meaning w) ≡ after_gets r n (meaning first)
+  pub bytes : take i into ++ gots r (n - i) (meaning w) ≡ gots r n (meaning first)
+  pub sent : Leads heard (row (get_command r) (frame_size r) (replicate (n - i) 0)) w (row (get_command r) (frame_size r) (replicate n 0)) first
 
-pub some_fit : (r : ℕ) → 0 < frame_size r
-some_fit r =
-    ⊎_elim
-    (λ t. let s : frame_size r ≡ 64 = cond-true (stays_at r) 64 1 t in omega arith)
-    (λ f. let s : frame_size r ≡ 1 = cond-false (stays_at r) 64 1 f in omega arith)
-    (cases_Bool (stays_at r))
+module _ {W : Type 0} (meaning : W → Bus) (heard : W → List ℕ → W → Type 0) (r n : ℕ) (first : W) where
+  pub fetched_none : (into : List ℕ) → length into ≡ n → Fetched meaning heard r n first 0 into first
+  fetched_none into h =
+      let all : n - 0 ≡ n = omega arith in
+      record {
+        kept = h;
+        after = ap (λ k. after_gets r k (meaning first)) all;
+        bytes = ap (λ k. gots r k (meaning first)) all;
+        sent = λ last chain. subst (λ (k : ℕ). Chain heard (row (get_command r) (frame_size r) (replicate k 0)) first last) all chain;
+      }
 
--- the row of frames is what the rules ask for: below 32 all of it, and nothing above
-module _ {W : Type 0} (heard : W → List ℕ → W → Type 0) (a : Asked) where
-  pub all_sent : (w last : W) → register_of a ≤ 31 → Chain heard (row (command_of a) (frame_size (register_of a)) (body_of a)) w last → Chain heard (frames_of a) w last
-  all_sent w last h chain =
-      subst (λ (fs : List (List ℕ)). Chain heard fs w last) (sym (cond-true (leb (register_of a) 31) (row (command_of a) (frame_size (register_of a)) (body_of a)) [] (le-leb (register_of a) 31 h))) chain
+  -- a frame for the part from i to e, which is all that is left where j lies past the end
+  pub fetched_more : (i j e l : ℕ) (into part : List ℕ) (w w' : W) → i < n → j ≡ i + frame_size r → e ≡ min (length into) j → l ≡ length (take (e - i) (drop i into)) → part ≡ gots r l (meaning w) → meaning w' ≡ after_gets r l (meaning w) → heard w (get_command r ∷ replicate l 0) w' → Fetched meaning heard r n first i into w → Fetched meaning heard r n first j (put_mid i (e - i) into part) w'
+  fetched_more i j e l into part w w' h step m long v a one f =
+      let some = some_fit r in
+      let kept = f.kept in
+      let left = length-drop i into in
+      let exact : l ≡ e - i = long ∙ length-take-le (e - i) (drop i into) (omega arith) in
+      let size = ap length v ∙ gots_length r l (meaning w) in
+      let split : n - i ≡ l + (n - j) = omega arith in
+      let parts = gets_parts r (n - i) l (n - j) (meaning w) split in
+      let front = front_written i e into part (omega arith) j (omega arith) (omega arith) m in
+      let joined = append_assoc (take i into) part (gots r (n - j) (meaning w')) in
+      let all = zeros_length (n - i) in
+      let one_long = zeros_length l in
+      record {
+        kept = rw (length_written i e into part (omega arith) (omega arith) (omega arith)) kept;
+        after = cc (parts.1, a, f.after);
+        bytes = cc (front, joined, parts.0, v, a, f.bytes);
+        sent =
+            leads_more heard (get_command r) (frame_size r) some (replicate (n - i) 0) (replicate l 0) (replicate (n - j) 0) w w' _ first (omega arith)
+            (zeros_parts (n - i) l (n - j) split) (omega arith) one f.sent;
+      }
 
-  pub none_sent : (w : W) → 31 < register_of a → Chain heard (frames_of a) w w
-  none_sent w h =
-      subst (λ (fs : List (List ℕ)). Chain heard fs w w) (sym (cond-false (leb (register_of a) 31) (row (command_of a) (frame_size (register_of a)) (body_of a)) [] (lt-leb (register_of a) 31 h))) refl
+-- the row of frames is what the rules ask for
+all_sent : {W : Type 0} (heard : W → List ℕ → W → Type 0) (a : Asked) (w last : W) → register_of a ≤ 31 → Chain heard (row (command_of a) (frame_size (register_of a)) (body_of a)) w last → Chain heard (frames_of a) w last
+all_sent heard a w last h chain = rw (cond-true (leb (register_of a) 31) _ _ (le-leb (register_of a) 31 h)) chain
 
--- the part of a slice from i on, n bytes long
-pub part_length : (i n : ℕ) (xs : List ℕ) → i + n ≤ length xs → length (take (i + n - i) (drop i xs)) ≡ n
-part_length i n xs h =
-    let l = length-drop i xs in
-    length-take-le (i + n - i) (drop i xs) (omega arith) ∙ (let z : i + n - i ≡ n = omega arith in z)
+-- all was put, to the register of this number
+module _ (r number : ℕ) (bytes left : List ℕ) (none : length left ≡ 0) (same : r ≡ number) where
+  pub put_after : (b first : Bus) → after_puts r left b ≡ after_puts r bytes first → b ≡ after_puts number bytes first
+  put_after b first e = sym (ap (λ l. after_puts r l b) (nil_from_length left none)) ∙ e ∙ ap (λ k. after_puts k bytes first) same
+
+  pub put_sent : {W : Type 0} (heard : W → List ℕ → W → Type 0) (w first : W) → r ≤ 31 → Leads heard (row (put_command r) (frame_size r) left) w (row (put_command r) (frame_size r) bytes) first → Chain heard (frames_of (puts number bytes)) first w
+  put_sent heard w first small lead =
+      subst (λ (k : ℕ). Chain heard (frames_of (puts k bytes)) first w) same
+      (all_sent heard (puts r bytes) first w small (leads_all heard (put_command r) (frame_size r) (some_fit r) left w _ first none lead))
+
+-- all was fetched, from the register of this number
+module _ {W : Type 0} {meaning : W → Bus} {heard : W → List ℕ → W → Type 0} {r number n i : ℕ} {first w : W} {into : List ℕ} (f : Fetched meaning heard r n first i into w) (over : n ≤ i) (same : r ≡ number) where
+  none_left : n - i ≡ 0
+  none_left = omega arith
+
+  pub fetched_after : meaning w ≡ after_gets number n (meaning first)
+  fetched_after = sym (ap (λ k. after_gets r k (meaning w)) none_left) ∙ f.after ∙ ap (λ k. after_gets k n (meaning first)) same
+
+  pub fetched_bytes : into ≡ gots number n (meaning first)
+  fetched_bytes =
+      let kept = f.kept in
+      sym (append-nil into)
+      ∙ sym (ap (λ l. l ++ []) (take_all i into (omega arith)))
+      ∙ sym (ap (λ k. take i into ++ gots r k (meaning w)) none_left)
+      ∙ f.bytes
+      ∙ ap (λ k. gots k n (meaning first)) same
+
+  pub fetched_sent : r ≤ 31 → Chain heard (frames_of (gets number n)) first w
+  fetched_sent small =
+      subst (λ (k : ℕ). Chain heard (frames_of (gets k n)) first w) same
+      (all_sent heard (gets r n) first w small (leads_all heard (get_command r) (frame_size r) (some_fit r) (replicate (n - i) 0) w _ first (zeros_length (n - i) ∙ none_left) f.sent))

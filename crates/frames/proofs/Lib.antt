@@ -1,4 +1,3 @@
-mod Writing
 mod Bodies
 mod Commands
 mod Carrying

@@ -1,36 +1,33 @@
 -- The frames of a many-access, seen as a whole. Assumes nothing.
-use Rattle.std.proofs.Common.{◌≡◌, ℕ, zero, suc, ◌<◌, ◌≤◌, leb, List, [], ◌∷◌, ◌++◌, map, length, take, drop, sym, refl, ap, ◌∙◌, subst, ⊎_elim, append_assoc, append-nil, arith}
-use Rattle.std.proofs.lemmas.List.{take_all, drop_all, length-drop, length-take-le, take-append-drop}
+use Rattle.std.proofs.Common.{◌≡◌, ℕ, zero, suc, ◌<◌, ◌≤◌, leb, List, [], ◌∷◌, ◌++◌, inl, inr, map, length, take, drop, sym, refl, ap, ◌∙◌, subst, append_assoc, append-nil, arith}
+use Rattle.std.proofs.lemmas.List.{length-drop, length-take-le, take-append-drop}
 use Rattle.std.proofs.lemmas.Bool.{cases_lt, cond-true, le-leb}
 use Rattle.frames.specs.Asked.{Asked, puts, gets}
 use Rattle.frames.specs.Format.{put_command, get_command, command_of, register_of, body_of}
 use Rattle.frames.specs.Pieces.{frame_size, pieces, row, frames_of}
 use Rattle.frames.specs.Laws.{Filled, OneByteOneFrame, PiecesAreFilled, ChainsAreWhole, NothingAbove31}
-use Rattle.frames.proofs.Cutting.{pieces_more, some_fit}
+use Rattle.frames.proofs.Cutting.{pieces_more, first_piece}
+use Rattle.frames.proofs.Carrying.{some_fit}
 use Rattle.frames.proofs.Above.{put_above, got_above, get_above}
 
 -- a piece that takes all
 one_piece : (size : ℕ) (xs : List ℕ) → 0 < length xs → length xs ≤ size → pieces size xs ≡ xs ∷ []
-one_piece size xs h small =
-    pieces_more size xs (omega arith) h
-    ∙ ap (λ p. p ∷ pieces size (drop size xs)) (take_all size xs small)
-    ∙ ap (λ d. xs ∷ pieces size d) (drop_all size xs small)
+one_piece size xs h small = first_piece size xs [] xs (omega arith) h (sym (append-nil xs)) (omega arith)
 
 module _ (size : ℕ) (some : 0 < size) where
   filled : (n : ℕ) (xs : List ℕ) → length xs ≤ n → Filled size (pieces size xs) xs
   filled n [] h = refl
   filled zero (x ∷ xs) h = absurd (omega arith)
   filled (suc n) (x ∷ xs) h =
-      let all : List ℕ = x ∷ xs in
+      let rest = drop size (x ∷ xs) in
       let left = length-drop size (x ∷ xs) in
-      ⊎_elim
-      (λ lt.
-      let more = pieces_more size (drop size (x ∷ xs)) some (omega arith) in
-      let whole : pieces size (x ∷ xs) ≡ take size (x ∷ xs) ∷ (take size (drop size (x ∷ xs)) ∷ pieces size (drop size (drop size (x ∷ xs)))) = pieces_more size (x ∷ xs) some (omega arith) ∙ ap (λ ps. take size (x ∷ xs) ∷ ps) more in
-      subst (λ (ps : List (List ℕ)). Filled size ps (x ∷ xs)) (sym whole)
-      (length-take-le size (x ∷ xs) (omega arith), (drop size (x ∷ xs), take-append-drop size (x ∷ xs), subst (λ (ps : List (List ℕ)). Filled size ps (drop size (x ∷ xs))) more (filled n (drop size (x ∷ xs)) (omega arith)))))
-      (λ le. subst (λ (ps : List (List ℕ)). Filled size ps (x ∷ xs)) (sym (one_piece size (x ∷ xs) (omega arith) le)) (refl, omega arith, le))
-      (cases_lt size (length (x ∷ xs)))
+      elim (cases_lt size (length (x ∷ xs))) [
+        | inl lt ↦
+            let more = pieces_more size rest some (omega arith) in
+            subst (λ (ps : List (List ℕ)). Filled size ps (x ∷ xs)) (sym (pieces_more size (x ∷ xs) some (omega arith) ∙ ap (λ ps. take size (x ∷ xs) ∷ ps) more))
+            (length-take-le size (x ∷ xs) (omega arith), (rest, take-append-drop size (x ∷ xs), subst (λ (ps : List (List ℕ)). Filled size ps rest) more (filled n rest (omega arith))))
+        | inr le ↦ subst (λ (ps : List (List ℕ)). Filled size ps (x ∷ xs)) (sym (one_piece size (x ∷ xs) (omega arith) le)) (refl, omega arith, le)
+      ]
 
 pub pieces_are_filled : PiecesAreFilled
 pieces_are_filled size bytes some = filled size some (length bytes) bytes (omega arith)

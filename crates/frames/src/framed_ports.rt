@@ -1,15 +1,16 @@
 // A port over any wire: each access of the port goes over the wire in frames.
-ghost use Rattle.std.specs.Prelude.{◌≡◌, ◌≤◌, [], ◌∷◌, length};
+ghost use Rattle.std.specs.Prelude.{◌≡◌, ◌+◌, ◌≤◌, [], ◌∷◌, length, take, IsTrue};
 ghost use Rattle.port.specs.Accesses.{after_put, got, after_get, after_puts, gots, after_gets};
-ghost use Rattle.frames.specs.Asked.{puts, gets};
-ghost use Rattle.frames.specs.Format.{frame_of};
+ghost use Rattle.frames.specs.Asked.{asked, puts, gets};
+ghost use Rattle.frames.specs.Exchanges.{exchanged, after_exchange};
+ghost use Rattle.frames.specs.Format.{count_of, frame_of, framed};
 ghost use Rattle.frames.specs.Pieces.{frame_size, frames_of};
 ghost use Rattle.frames.specs.Chains.{Chain};
 ghost use Rattle.frames.specs.contracts.framed_ports.FramedPort.{the_row};
 ghost use Rattle.std.specs.Borrow.{sem, follows};
 
-use crate::formats::{BODY_MOST, FRAME_MOST, REGISTER_MOST, write_get, write_put};
-use crate::registers::stays;
+use crate::formats::{Access, BODY_MOST, FRAME_MOST, write_frame};
+use crate::registers::{Register, stays};
 use crate::wires::Wire;
 use port::Port;
 
@@ -19,39 +20,55 @@ pub struct FramedPort<W> {
 }
 
 // The most data bytes that one frame carries to or from a register.
-fn most(register: u8) -> usize
-    ensures { result ≡ frame_size register }
+fn most(register: Register) -> usize
+    ensures { result ≡ frame_size register.number }
 {
-    if stays(register) { BODY_MOST } else { 1 }
+    if stays(register.number) { BODY_MOST } else { 1 }
+}
+
+// One frame, written to the front of the buffer and exchanged there. Gives its length.
+fn exchange_frame<W: Wire>(wire: &mut W, access: Access, buffer: &mut [u8; FRAME_MOST]) -> usize
+    requires { IsTrue (framed (asked access)) }
+    ensures length { result ≡ 1 + count_of (asked access.entry) }
+    ensures answers { take result buffer.new ≡ exchanged (W.duplex wire.old) (frame_of (asked access.entry)) (W.meaning wire.old) }
+    ensures after { W.meaning wire.new ≡ after_exchange (frame_of (asked access.entry)) (W.meaning wire.old) }
+    ensures mode { W.duplex wire.new ≡ W.duplex wire.old }
+    ensures sent { W.heard wire.old (frame_of (asked access.entry)) wire.new }
+{
+    let length = write_frame(access, buffer);
+    wire.exchange(&mut buffer[..length]);
+    length
 }
 
 // One frame of bytes to put.
-fn put_piece<W: Wire>(wire: &mut W, register: u8, piece: &[u8])
-    requires { (register ≤ 31) × (length piece.now ≤ frame_size register) }
-    ensures after { W.meaning wire.new ≡ after_puts register piece.now (W.meaning wire.old) }
+fn put_piece<W: Wire>(wire: &mut W, register: Register, piece: &[u8])
+    requires { length piece.now ≤ frame_size register.number }
+    ensures after { W.meaning wire.new ≡ after_puts register.number piece.now (W.meaning wire.old) }
     ensures mode { W.duplex wire.new ≡ W.duplex wire.old }
-    ensures sent { W.heard wire.old (frame_of (puts register piece.now)) wire.new }
+    ensures sent { W.heard wire.old (frame_of (puts register.number piece.now)) wire.new }
 {
-    let mut buffer = [0; FRAME_MOST];
-    let length = write_put(register, piece, &mut buffer);
-    let frame = &mut buffer[0..length];
-    wire.exchange(frame);
+    let access = Access::Put {
+        register: register.number,
+        bytes: piece,
+    };
+    exchange_frame(wire, access, &mut [0; FRAME_MOST]);
 }
 
 // One frame of bytes to get.
-fn get_piece<W: Wire>(wire: &mut W, register: u8, piece: &mut [u8])
-    requires { (register ≤ 31) × (length piece.old ≤ frame_size register) }
-    ensures bytes { piece.new ≡ gots register (length piece.old) (W.meaning wire.old) }
-    ensures after { W.meaning wire.new ≡ after_gets register (length piece.old) (W.meaning wire.old) }
+fn get_piece<W: Wire>(wire: &mut W, register: Register, piece: &mut [u8])
+    requires { length piece.old ≤ frame_size register.number }
+    ensures bytes { piece.new ≡ gots register.number (length piece.old) (W.meaning wire.old) }
+    ensures after { W.meaning wire.new ≡ after_gets register.number (length piece.old) (W.meaning wire.old) }
     ensures mode { W.duplex wire.new ≡ W.duplex wire.old }
-    ensures sent { W.heard wire.old (frame_of (gets register (length piece.old))) wire.new }
+    ensures sent { W.heard wire.old (frame_of (gets register.number (length piece.old))) wire.new }
 {
+    let access = Access::Get {
+        register: register.number,
+        count: piece.len(),
+    };
     let mut buffer = [0; FRAME_MOST];
-    let length = write_get(register, piece.len(), &mut buffer);
-    let frame = &mut buffer[0..length];
-    wire.exchange(frame);
-    let answers = &frame[1..length];
-    piece.copy_from_slice(answers);
+    let length = exchange_frame(wire, access, &mut buffer);
+    piece.copy_from_slice(&buffer[1..length]);
 }
 
 impl<W: Wire> FramedPort<W> {
@@ -65,8 +82,7 @@ impl<W: Wire> FramedPort<W> {
     pub fn into_wire(self) -> W
         ensures { result ≡ self.wire }
     {
-        let FramedPort { wire } = self;
-        wire
+        self.wire
     }
 
     // The wire, to look at.
@@ -115,15 +131,11 @@ impl<W: Wire> Port for FramedPort<W> {
         ensures mode { W.duplex self.new.wire ≡ W.duplex self.old.wire }
         ensures sent { Chain W.heard (frames_of (puts register bytes.now)) self.old.wire self.new.wire }
     {
-        if register > REGISTER_MOST {
+        let Some(register) = Register::new(register) else {
             return;
-        }
-        let size = most(register);
-        let mut done = 0;
-        while done < bytes.len() {
-            let count = size.min(bytes.len() - done);
-            put_piece(&mut self.wire, register, &bytes[done..done + count]);
-            done += count;
+        };
+        for piece in bytes.chunks(most(register)) {
+            put_piece(&mut self.wire, register, piece);
         }
     }
 
@@ -134,17 +146,15 @@ impl<W: Wire> Port for FramedPort<W> {
         ensures mode { W.duplex self.new.wire ≡ W.duplex self.old.wire }
         ensures sent { Chain W.heard (frames_of (gets register (length into.old))) self.old.wire self.new.wire }
     {
-        if register > REGISTER_MOST {
+        let Some(register) = Register::new(register) else {
             into.fill(0);
             return;
-        }
+        };
         let size = most(register);
-        let mut done = 0;
-        while done < into.len() {
-            let count = size.min(into.len() - done);
-            let piece = &mut into[done..done + count];
-            get_piece(&mut self.wire, register, piece);
-            done += count;
+        // by ranges: after a loop over `chunks_mut` only the length of the slice would be known
+        for start in (0..into.len()).step_by(size) {
+            let end = into.len().min(start + size);
+            get_piece(&mut self.wire, register, &mut into[start..end]);
         }
     }
 }

@@ -3,6 +3,7 @@ ghost use Rattle.std.specs.Prelude.{◌≡◌};
 ghost use Rattle.frames.specs.declared.duplexes.Duplex.TheVariants.{Full};
 ghost use Rattle.frames.specs.Exchanges.{exchanged, after_exchange};
 
+use crate::duplexes::Duplex;
 use crate::framed_ports::FramedPort;
 use crate::port_wires::PortWire;
 use crate::wires::Wire;
@@ -12,7 +13,7 @@ pub fn exchange_layered<W: Wire>(wire: W, bytes: &mut [u8]) -> W
     ensures answers { bytes.new ≡ exchanged Full bytes.old (W.meaning wire) }
     ensures after { W.meaning result ≡ after_exchange bytes.old (W.meaning wire) }
 {
-    let mut outer = PortWire::full(FramedPort::new(wire));
+    let mut outer = PortWire::new(FramedPort::new(wire), Duplex::Full);
     outer.exchange(bytes);
     outer.into_port().into_wire()
 }

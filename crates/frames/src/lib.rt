@@ -11,9 +11,9 @@ mod registers;
 mod wires;
 
 pub use duplexes::Duplex;
-pub use formats::{Access, BODY_MOST, FRAME_MOST, REGISTER_MOST, read_frame, write_frame};
+pub use formats::{Access, BODY_MOST, FRAME_MOST, read_frame, write_frame};
 pub use framed_ports::FramedPort;
 pub use layers::exchange_layered;
 pub use port_wires::PortWire;
-pub use registers::stays;
+pub use registers::{REGISTER_MOST, stays};
 pub use wires::Wire;

@@ -1,14 +1,13 @@
 // A wire over any port: each data byte is one access of the port.
-ghost use Rattle.std.specs.Prelude.{◌≡◌, ◌≤◌, length, replicate};
-ghost use Rattle.frames.specs.declared.duplexes.Duplex.TheVariants.{Half, Full};
+ghost use Rattle.std.specs.Prelude.{◌≡◌, length, replicate};
 ghost use Rattle.frames.specs.Exchanges.{after_put_body, got_body, after_got_body, first_answer, body_answers, after_body};
 ghost use Rattle.frames.specs.PortWires.{Heard};
 ghost use Rattle.frames.specs.contracts.port_wires.PortWire.{the_row};
 ghost use Rattle.std.specs.Borrow.{sem, follows};
 
 use crate::duplexes::Duplex;
-use crate::formats::{FRAME_MOST, is_put};
-use crate::registers::next;
+use crate::formats::{BODY_MOST, is_put};
+use crate::registers::Register;
 use crate::wires::Wire;
 use port::Port;
 use port::registers::HIRQ;
@@ -20,24 +19,11 @@ pub struct PortWire<P> {
 }
 
 impl<P: Port> PortWire<P> {
-    // A half duplex wire to the port.
-    pub fn half(port: P) -> PortWire<P>
-        ensures { result ≡ record { port = port; duplex = Half } }
+    // A wire to the port.
+    pub fn new(port: P, duplex: Duplex) -> PortWire<P>
+        ensures { result ≡ record { port = port; duplex = duplex } }
     {
-        PortWire {
-            port,
-            duplex: Duplex::Half,
-        }
-    }
-
-    // A full duplex wire to the port.
-    pub fn full(port: P) -> PortWire<P>
-        ensures { result ≡ record { port = port; duplex = Full } }
-    {
-        PortWire {
-            port,
-            duplex: Duplex::Full,
-        }
+        PortWire { port, duplex }
     }
 
     // The port, to look at.
@@ -59,8 +45,7 @@ impl<P: Port> PortWire<P> {
     pub fn into_port(self) -> P
         ensures { result ≡ self.port }
     {
-        let PortWire { port, duplex: _ } = self;
-        port
+        self.port
     }
 }
 
@@ -75,28 +60,27 @@ fn status<P: Port>(port: &mut P, duplex: Duplex) -> u8
     }
 }
 
-fn put_body<P: Port>(port: &mut P, register: u8, body: &mut [u8])
-    requires { register ≤ 31 }
+// Puts and gets have a loop each: the two have only the way of the register in common.
+fn put_body<P: Port>(port: &mut P, register: Register, body: &mut [u8])
     ensures answers { body.new ≡ replicate (length body.old) 0 }
-    ensures after { P.meaning port.new ≡ after_put_body register body.old (P.meaning port.old) }
+    ensures after { P.meaning port.new ≡ after_put_body register.number body.old (P.meaning port.old) }
 {
     let mut at = register;
     for byte in body.iter_mut() {
-        port.put(at, *byte);
+        port.put(at.number, *byte);
         *byte = 0;
-        at = next(at);
+        at = at.next();
     }
 }
 
-fn get_body<P: Port>(port: &mut P, register: u8, body: &mut [u8])
-    requires { register ≤ 31 }
-    ensures answers { body.new ≡ got_body register (length body.old) (P.meaning port.old) }
-    ensures after { P.meaning port.new ≡ after_got_body register (length body.old) (P.meaning port.old) }
+fn get_body<P: Port>(port: &mut P, register: Register, body: &mut [u8])
+    ensures answers { body.new ≡ got_body register.number (length body.old) (P.meaning port.old) }
+    ensures after { P.meaning port.new ≡ after_got_body register.number (length body.old) (P.meaning port.old) }
 {
     let mut at = register;
     for byte in body.iter_mut() {
-        *byte = port.get(at);
-        at = next(at);
+        *byte = port.get(at.number);
+        at = at.next();
     }
 }
 
@@ -105,10 +89,11 @@ fn access_body<P: Port>(port: &mut P, command: u8, body: &mut [u8])
     ensures answers { body.new ≡ body_answers command body.old (P.meaning port.old) }
     ensures after { P.meaning port.new ≡ after_body command body.old (P.meaning port.old) }
 {
+    let register = Register::named_by(command);
     if is_put(command) {
-        put_body(port, command / 8, body);
+        put_body(port, register, body);
     } else {
-        get_body(port, command / 8, body);
+        get_body(port, register, body);
     }
 }
 
@@ -120,13 +105,12 @@ impl<P: Port> Wire for PortWire<P> {
     ghost heard = { λ s bytes t. Heard s.duplex t.duplex bytes (P.meaning s.port) (P.meaning t.port) };
 
     fn exchange(&mut self, bytes: &mut [u8]) {
-        if bytes.len() == 0 {
+        let Some((first, rest)) = bytes.split_first_mut() else {
             return;
-        }
-        let command = bytes[0];
-        let end = bytes.len().min(FRAME_MOST);
-        bytes[0] = status(&mut self.port, self.duplex);
-        let body = &mut bytes[1..end];
-        access_body(&mut self.port, command, body);
+        };
+        let command = *first;
+        *first = status(&mut self.port, self.duplex);
+        let end = rest.len().min(BODY_MOST);
+        access_body(&mut self.port, command, &mut rest[..end]);
     }
 }

@@ -1,22 +1,19 @@
 -- The promises of a send, from what its run keeps. Assumes nothing.
-use Rattle.std.proofs.Common.{◌≡◌, ℕ, ◌+◌, ◌%◌, ◌<◌, ◌≤◌, min, true, false, cond, eqb, ltb, ◌≢◌, ◌⊎◌, List, ◌++◌, length, get_or, take, drop, Some, None, Option, sym, refl, ap, ◌∙◌, subst, inl, inr, ⊎_elim, append-nil, arith}
+use Rattle.std.proofs.Common.{◌≡◌, ℕ, ◌+◌, ◌%◌, ◌<◌, ◌≤◌, min, true, false, ◌≢◌, ◌⊎◌, List, ◌++◌, length, get_or, take, drop, Some, None, Option, sym, refl, ap, ◌∙◌, subst, inl, inr, ⊎_elim, append-nil, arith}
+use Rattle.std.proofs.lemmas.Grind.{common_steps}
 use Rattle.std.proofs.lemmas.List.{length-take, length-drop, get_or-set_same}
-use Rattle.std.proofs.lemmas.Bool.{and_parts, ltb-true, ltb-false, eqb-true, eqb-false, cases_Bool, false≢true}
+use Rattle.std.proofs.lemmas.Bool.{cases_Bool, false≢true}
 use Rattle.port.specs.declared.directions.Direction.TheVariants as directions
 use Rattle.port.specs.Endpoints.{nowhere, place}
 use Rattle.port.specs.Bus.{Bus}
-use Rattle.attempt.specs.Tries.{out_answer}
-use Rattle.pipes.specs.declared.counting.Verdict.{Verdict}
-use Rattle.pipes.specs.declared.counting.Verdict.TheVariants.{Succeeded, Again, Stop}
 use Rattle.pipes.specs.declared.pipes.Pipe.{Pipe}
 use Rattle.pipes.specs.declared.pipes.Standing.{Standing}
-use Rattle.pipes.specs.declared.pipes.Standing.TheVariants.{InStep, Doubtful, Halted}
+use Rattle.pipes.specs.declared.pipes.Standing.TheVariants.{InStep}
 use Rattle.pipes.specs.declared.refusals.Refusal.{Refusal}
 use Rattle.pipes.specs.declared.refusals.Refusal.TheVariants.{NakLimit, Stalled}
 use Rattle.host.specs.declared.sending.Progress.{Progress}
 use Rattle.pipes.specs.Answers.{number_of}
 use Rattle.pipes.specs.Standings.{next_standing}
-use Rattle.pipes.specs.Counting.{fresh_counts, verdict, counted, succeeded, stop_of}
 use Rattle.pipes.specs.Tables.{Places}
 use Rattle.host.specs.Calls.{Done, send_by, send_done, sent_pipe}
 use Rattle.host.specs.Sending.{Sending, sending, none_yet, send_start, send_packet, send_step, send_going, send_budget, send_run, doubt, send_event}
@@ -26,24 +23,15 @@ use Rattle.host.proofs.Budgets.{packet_some}
 use Rattle.host.proofs.Runs.{run_keeps}
 use Rattle.host.proofs.Sent.{all_sent, succeeded as unstopped}
 
--- a send that stopped had more to send
-stop_short : (v : Verdict) (sent more all : ℕ) → sent < all → none_yet (stop_of v) ≡ false → cond (succeeded v) more sent < all
-stop_short Succeeded sent more all h e = absurd (false≢true (sym e))
-stop_short Again sent more all h e = absurd (false≢true (sym e))
-stop_short (Stop why) sent more all h e = h
-
 module _ (p : Pipe) (message : List ℕ) (b : Bus) where
   Short : Sending → Type 0
-  Short s = none_yet s.progress.stop ≡ false → s.progress.sent < length message
+  Short s = none_yet s.progress.tally.stop ≡ false → s.progress.sent < length message
 
   step_short : (s : Sending) → Short s → send_going p message s ≡ true → Short (send_step p message s)
   unfolding Short
-  step_short s h g =
-      let q = s.progress in
-      let lt = ltb-true q.sent (length message) (and_parts (none_yet q.stop) (ltb q.sent (length message)) g).1 in
-      stop_short (verdict (out_answer p.address p.endpoint q.toggle (send_packet p message q) s.bus).0 q.counts) q.sent _ (length message) lt
+  step_short s h g = grind (arith, common_steps)
 
-  run_short : none_yet (send_run p message b).progress.stop ≡ false → (send_run p message b).progress.sent < length message
+  run_short : none_yet (send_run p message b).progress.tally.stop ≡ false → (send_run p message b).progress.sent < length message
   unfolding Short
   run_short = run_keeps (send_going p message) (send_step p message) Short step_short (send_budget p message) (sending (send_start p) b) (λ e. absurd (false≢true (sym e)))
 
@@ -66,8 +54,8 @@ module _ (p : Pipe) (message : List ℕ) (b : Bus) where
         })
 
 -- the doubt of a send that stopped after a miss
-doubt_stopped : (p : Pipe) (message : List ℕ) (q : Progress) → none_yet q.stop ≡ false → q.counts.missed ≡ true → doubt p message q ≡ length (send_packet p message q)
-doubt_stopped p message q stopped missed = ap (λ x. cond x 0 (cond q.counts.missed (length (send_packet p message q)) 0)) stopped ∙ ap (λ x. cond x (length (send_packet p message q)) 0) missed
+doubt_stopped : (p : Pipe) (message : List ℕ) (q : Progress) → none_yet q.tally.stop ≡ false → q.tally.counts.missed ≡ true → doubt p message q ≡ length (send_packet p message q)
+doubt_stopped p message q stopped missed = grind (arith, common_steps)
 
 pub sends_are_accounted_for : SendsAreAccountedFor
 sends_are_accounted_for places b number message p admitted step =
@@ -91,7 +79,7 @@ sends_are_accounted_for places b number message p admitted step =
           let d = length-drop q.sent message in
           inl (omega arith))
           (λ stopped. inr (ap (λ n. q.sent + n) (sym (doubt_stopped p message q stopped second.0))))
-          (cases_Bool (none_yet q.stop)),
+          (cases_Bool (none_yet q.tally.stop)),
       second.2,
       held.others,
     ))
@@ -100,20 +88,13 @@ sends_are_accounted_for places b number message p admitted step =
 -- a miss is forgotten once its packet is sent, so none is left when all is sent
 module _ (p : Pipe) (message : List ℕ) (b : Bus) where
   Sure : Sending → Type 0
-  Sure s = length message ≤ s.progress.sent → s.progress.counts.missed ≡ false
+  Sure s = length message ≤ s.progress.sent → s.progress.tally.counts.missed ≡ false
 
   step_sure : (s : Sending) → Sure s → send_going p message s ≡ true → Sure (send_step p message s)
   unfolding Sure
-  step_sure s h g =
-      let q = s.progress in
-      let lt = ltb-true q.sent (length message) (and_parts (none_yet q.stop) (ltb q.sent (length message)) g).1 in
-      let code = (out_answer p.address p.endpoint q.toggle (send_packet p message q) s.bus).0 in
-      ⊎_elim
-      (λ t le. ap (λ x. (cond x (fresh_counts p.limit) (counted code q.counts)).missed) t)
-      (λ f le. let e : (send_step p message s).progress.sent ≡ q.sent = ap (λ x. cond x (q.sent + length (send_packet p message q)) q.sent) f in absurd (omega arith))
-      (cases_Bool (succeeded (verdict code q.counts)))
+  step_sure s h g = grind (arith, common_steps)
 
-  run_sure : length message ≤ (send_run p message b).progress.sent → (send_run p message b).progress.counts.missed ≡ false
+  run_sure : length message ≤ (send_run p message b).progress.sent → (send_run p message b).progress.tally.counts.missed ≡ false
   unfolding Sure
   run_sure = run_keeps (send_going p message) (send_step p message) Sure step_sure (send_budget p message) (sending (send_start p) b) (λ le. refl)
 
@@ -140,7 +121,7 @@ module _ (p : Pipe) (message : List ℕ) (b : Bus) where
 
 -- 14 and 16 are other stops
 not_stalled : (o : Option Refusal) → o ≡ Some NakLimit → o ≡ Some Stalled → ⊥
-not_stalled o one other = let z : ◌≡◌ {A = ℕ} 14 16 = sym (ap number_of one) ∙ ap number_of other in omega arith
+not_stalled o one other = grind (arith, common_steps)
 
 pub busy_printers_stay_in_step : BusyPrintersStayInStep
 busy_printers_stay_in_step places b number message p inside admitted step limit sure =
@@ -149,13 +130,13 @@ busy_printers_stay_in_step places b number message p inside admitted step limit 
     let b' = (send_run p message b).bus in
     let p' = sent_pipe places b number p message q in
     let held = run_held p message b step in
-    let stop : q.stop ≡ Some NakLimit = sym (ap (λ d. d.answer.refusal) e) ∙ limit in
+    let stop : q.tally.stop ≡ Some NakLimit = sym (ap (λ d. d.answer.refusal) e) ∙ limit in
     let none : doubt p message q ≡ 0 = sym (ap (λ d. d.answer.doubtful) e) ∙ sure in
-    let stopped : none_yet q.stop ≡ false = ap none_yet stop in
+    let stopped : none_yet q.tally.stop ≡ false = ap none_yet stop in
     let some = packet_some p message step.made.size_above step.made.limit_above q (run_short p message b stopped) in
     let clean : ((get_or b'.devices.endpoints (spot p b) nowhere).toggle ≡ q.toggle) × ((get_or b'.devices.endpoints (spot p b) nowhere).taken ≡ (device p b).taken ++ take q.sent message) =
     ⊎_elim (λ first. first) (λ second. let d = doubt_stopped p message q stopped second.0 in absurd (omega arith)) held.at in
-    let alive : (get_or b'.devices.endpoints (spot p b) nowhere).halted ≡ false = ⊎_elim (λ x. x) (λ x. absurd (not_stalled q.stop stop x)) held.live in
+    let alive : (get_or b'.devices.endpoints (spot p b) nowhere).halted ≡ false = ⊎_elim (λ x. x) (λ x. absurd (not_stalled q.tally.stop stop x)) held.live in
     let standing : p'.standing ≡ p.standing = (λ j. next_standing p.standing (send_event (number_of (stop j)) (none j))) in (
       p',
       ap (λ d. get_or d.places number None) e ∙ get_or-set_same places number (Some p') None inside,
@@ -163,26 +144,9 @@ busy_printers_stay_in_step places b number message p inside admitted step limit 
       standing,
     )
 
-halted_not : Halted ≡ InStep → ⊥
-halted_not e = let z : ◌≡◌ {A = ℕ} 0 1 = cc in omega arith
-
-doubtful_not : Doubtful ≡ InStep → ⊥
-doubtful_not e = let z : ◌≡◌ {A = ℕ} 0 1 = cc in omega arith
-
 -- what a standing of in step says of the answer
 shown : (standing : Standing) (n d : ℕ) → next_standing standing (send_event n d) ≡ InStep → (n ≡ 0) ⊎ ((n ≡ 16 → ⊥) × (d ≡ 0))
-shown standing n d h =
-    ⊎_elim (λ t. inl (eqb-true n 0 t))
-    (λ (zero : eqb n 0 ≡ false).
-    ⊎_elim
-    (λ (stalled : eqb n 16 ≡ true). absurd (halted_not (sym (let e : next_standing standing (send_event n d) ≡ Halted = rw (zero, stalled) refl in e) ∙ h)))
-    (λ (other : eqb n 16 ≡ false).
-    ⊎_elim
-    (λ (some : ltb 0 d ≡ true). absurd (doubtful_not (sym (let e : next_standing standing (send_event n d) ≡ Doubtful = rw (zero, other, some) refl in e) ∙ h)))
-    (λ (none : ltb 0 d ≡ false). inr (eqb-false n 16 other, (let le = ltb-false 0 d none in omega arith)))
-    (cases_Bool (ltb 0 d)))
-    (cases_Bool (eqb n 16)))
-    (cases_Bool (eqb n 0))
+shown standing n d h = grind (arith, common_steps)
 
 same_some : (p p' : Pipe) → Some p ≡ Some p' → p ≡ p'
 same_some p p' e = cc
@@ -194,7 +158,7 @@ sends_keep_step places b number message p p' inside admitted step found standing
     let held = run_held p message b step in
     let p'' = sent_pipe places b number p message q in
     let is : p'' ≡ p' = same_some p'' p' (sym (ap (λ d. get_or d.places number None) e ∙ get_or-set_same places number (Some p'') None inside) ∙ found) in
-    let told = shown p.standing (number_of q.stop) (doubt p message q) (ap (λ x. x.standing) is ∙ standing) in
+    let told = shown p.standing (number_of q.tally.stop) (doubt p message q) (ap (λ x. x.standing) is ∙ standing) in
     let clean : (get_or (send_run p message b).bus.devices.endpoints (spot p b) nowhere).toggle ≡ q.toggle =
     ⊎_elim (λ first. first.0)
     (λ second.
@@ -203,8 +167,8 @@ sends_keep_step places b number message p p' inside admitted step found standing
     (λ stopped.
     let d = doubt_stopped p message q stopped second.0 in
     let some = packet_some p message step.made.size_above step.made.limit_above q (run_short p message b stopped) in
-    ⊎_elim (λ zero. absurd (false≢true (sym stopped ∙ unstopped q.stop zero))) (λ sure. absurd (let z = sure.1 in omega arith)) told)
-    (cases_Bool (none_yet q.stop)))
+    ⊎_elim (λ zero. absurd (false≢true (sym stopped ∙ unstopped q.tally.stop zero))) (λ sure. absurd (let z = sure.1 in omega arith)) told)
+    (cases_Bool (none_yet q.tally.stop)))
     held.at in
     let alive : (get_or (send_run p message b).bus.devices.endpoints (spot p b) nowhere).halted ≡ false =
     ⊎_elim (λ x. x) (λ x. ⊎_elim (λ zero. let z : ◌≡◌ {A = ℕ} 16 0 = sym (ap number_of x) ∙ zero in absurd (omega arith)) (λ sure. absurd (sure.0 (ap number_of x))) told) held.live in

@@ -1,35 +1,26 @@
 -- What it says of the table and the pipe that a call passed its checks. Assumes nothing.
-use Rattle.std.proofs.Common.{◌≡◌, ℕ, zero, suc, ◌≤◌, Bool, true, false, cond, not, ◌&&◌, ◌||◌, eqb, ltb, leb, [], ◌∷◌, is_some, Some, None, Ok, Err, Option, Result, sym, refl, ap, ◌∙◌, subst, ⊎_elim, arith}
-use Rattle.std.proofs.lemmas.Bool.{cond_both, and_parts, or_cases, or_parts, leb-true, ltb-false, eqb-true, eqb-false, eq-eqb, not-false, cases_eq, false≢true}
+use Rattle.std.proofs.Common.{◌≡◌, ℕ, zero, suc, ◌≤◌, Bool, true, false, cond, not, ◌&&◌, eqb, ltb, leb, [], ◌∷◌, is_some, Some, None, Ok, Option, sym, ap, ◌∙◌, ⊎_elim, arith}
+use Rattle.std.proofs.lemmas.Grind.{common_steps}
+use Rattle.std.proofs.lemmas.Bool.{and_parts, or_parts, leb-true, ltb-false, eqb-false, eq-eqb, not-false, cases_eq, false≢true}
 use Rattle.port.specs.declared.directions.Direction.{Direction}
 use Rattle.port.specs.declared.directions.Direction.TheVariants.{Out, In}
 use Rattle.port.specs.Directions.{facing}
 use Rattle.pipes.specs.declared.pipes.Pipe.{Pipe}
-use Rattle.pipes.specs.declared.pipes.Standing.{Standing}
-use Rattle.pipes.specs.declared.pipes.Standing.TheVariants.{InStep, Doubtful, Halted}
-use Rattle.pipes.specs.declared.refusals.Refusal.{Refusal}
-use Rattle.pipes.specs.declared.refusals.Refusal.TheVariants.{NoSuchPipe, PipeThere, BadAddress, BadEndpoint, BadSize, NoLimit, EndpointTaken, WrongDirection, BadLength}
-use Rattle.pipes.specs.Tables.{Places, pipe_at, leads_to, some_pipe_at}
-use Rattle.pipes.specs.Checks.{good_size, good_buffer, open_refusal, there, present, by_standing, sendable, fetchable, not_in_step, recoverable, then, admit_send, admit_fetch, admit_recover}
-use Rattle.host.specs.Calls.{new_pipe}
+use Rattle.pipes.specs.declared.pipes.Standing.TheVariants.{InStep}
+use Rattle.pipes.specs.declared.refusals.Refusal.TheVariants.{NoSuchPipe, PipeThere, BadAddress, BadEndpoint, BadSize, NoLimit, EndpointTaken}
+use Rattle.pipes.specs.Tables.{Places, pipe_at, leads_to, some_pipe_at, new_pipe}
+use Rattle.pipes.specs.Checks.{good_size, open_refusal, present, fetchable, admit_send, admit_fetch, admit_recover}
 use Rattle.host.specs.Laws.{Made}
 
 -- a check that was passed
 passed : {X : Type 0} (t : Bool) (x : X) (rest : Option X) → cond t (Some x) rest ≡ None → (t ≡ false) × (rest ≡ None)
-passed true x rest h = let z : ◌≡◌ {A = ℕ} 0 1 = cc in absurd (omega arith)
-passed false x rest h = (refl, h)
+passed t x rest h = grind (arith, common_steps)
 
 size_some : (size : ℕ) → good_size size ≡ true → 1 ≤ size
-size_some size h =
-    ⊎_elim (λ t. let e = eqb-true size 8 t in omega arith)
-    (λ t. ⊎_elim (λ u. let e = eqb-true size 16 u in omega arith)
-    (λ u. ⊎_elim (λ v. let e = eqb-true size 32 v in omega arith) (λ v. let e = eqb-true size 64 v in omega arith) (or_cases (eqb size 32) (eqb size 64) u))
-    (or_cases (eqb size 16) (eqb size 32 || eqb size 64) t))
-    (or_cases (eqb size 8) (eqb size 16 || (eqb size 32 || eqb size 64)) h)
+size_some size h = grind (arith, common_steps)
 
 absent : (o : Option Pipe) → is_some o ≡ false → o ≡ None
-absent None h = refl
-absent (Some p) h = absurd (false≢true (sym h))
+absent o h = grind (arith, common_steps)
 
 above : (n : ℕ) → (n ≡ 0 → ⊥) → 1 ≤ n
 above n h = ⊎_elim (λ z. absurd (h z)) (λ z. omega arith) (cases_eq n 0)
@@ -66,51 +57,19 @@ open_passed places number a e d size limit h =
     }
 
 facing_same : (d d' : Direction) → d ≡ d' → facing d d' ≡ true
-facing_same Out d' e = ap (facing Out) (sym e)
-facing_same In d' e = ap (facing In) (sym e)
+facing_same d d' h = grind (arith, common_steps)
 
 -- where no pipe leads to an endpoint, the pipe of a number does not
 pub none_leads : (a e : ℕ) (d : Direction) (places : Places) → some_pipe_at a e d places ≡ false → (n : ℕ) (p : Pipe) → pipe_at places n ≡ Some p → p.address ≡ a → p.endpoint ≡ e → p.direction ≡ d → ⊥
-none_leads a e d [] h n p is x y z = let w : ◌≡◌ {A = ℕ} 0 1 = cc in omega arith
+none_leads a e d [] h n p is x y z = cc
 none_leads a e d (place ∷ places) h zero p is x y z =
     let first = (or_parts (leads_to a e d place) (some_pipe_at a e d places) h).0 in
     let yes : leads_to a e d (Some p) ≡ true = (let x' = eq-eqb p.address a x in let y' = eq-eqb p.endpoint e y in let z' = facing_same p.direction d z in λ i. x' i && (y' i && z' i)) in
     false≢true (sym first ∙ ap (leads_to a e d) is ∙ yes)
 none_leads a e d (place ∷ places) h (suc n) p is x y z = none_leads a e d places (or_parts (leads_to a e d place) (some_pipe_at a e d places) h).1 n p is x y z
 
--- the pipe of a call that needs one is in the table
-there_some : (o : Option Pipe) (p : Pipe) → there o ≡ Ok p → o ≡ Some p
-there_some None p h = let z : ◌≡◌ {A = ℕ} 0 1 = cc in absurd (omega arith)
-there_some (Some q) p h = cc
-
 pub present_at : (places : Places) (n : ℕ) (p : Pipe) → present places n ≡ Ok p → (n ≤ 7) × (pipe_at places n ≡ Some p)
-present_at places n p =
-    cond_both (ltb 7 n) (Err NoSuchPipe) (there (pipe_at places n)) (λ r. r ≡ Ok p → (n ≤ 7) × (pipe_at places n ≡ Some p))
-    (λ _ h. let z : ◌≡◌ {A = ℕ} 0 1 = cc in absurd (omega arith))
-    (λ t h. (ltb-false 7 n t, there_some (pipe_at places n) p h))
-
--- a check more
-then_ok : (r : Result Pipe Refusal) (f : Pipe → Result Pipe Refusal) (p : Pipe) → then r f ≡ Ok p → (q : Pipe) × (r ≡ Ok q) × (f q ≡ Ok p)
-then_ok (Ok q) f p h = (q, refl, h)
-then_ok (Err why) f p h = let z : ◌≡◌ {A = ℕ} 0 1 = cc in absurd (omega arith)
-
-standing_ok : (q p : Pipe) (s : Standing) → by_standing q s ≡ Ok p → (q ≡ p) × (s ≡ InStep)
-standing_ok q p InStep h = (cc, refl)
-standing_ok q p Doubtful h = let z : ◌≡◌ {A = ℕ} 0 1 = cc in absurd (omega arith)
-standing_ok q p Halted h = let z : ◌≡◌ {A = ℕ} 0 1 = cc in absurd (omega arith)
-
-not_in : (d : Direction) → facing d In ≡ false → d ≡ Out
-not_in Out h = refl
-not_in In h = absurd (false≢true (sym h))
-
-not_out : (d : Direction) → facing d Out ≡ false → d ≡ In
-not_out Out h = absurd (false≢true (sym h))
-not_out In h = refl
-
-checks_ok : (t u : Bool) (why why' : Refusal) (r : Result Pipe Refusal) (p : Pipe) → cond t (Err why) (cond u (Err why') r) ≡ Ok p → (t ≡ false) × (u ≡ false) × (r ≡ Ok p)
-checks_ok true u why why' r p h = let z : ◌≡◌ {A = ℕ} 0 1 = cc in absurd (omega arith)
-checks_ok false true why why' r p h = let z : ◌≡◌ {A = ℕ} 0 1 = cc in absurd (omega arith)
-checks_ok false false why why' r p h = (refl, refl, h)
+present_at places n p = grind (arith, common_steps)
 
 -- the pipe of a send, and of a fetch: it is there, faces the right way, and is in step
 pub record Admitted (places : Places) (n : ℕ) (d : Direction) (p : Pipe) : Type 0 where
@@ -120,35 +79,14 @@ pub record Admitted (places : Places) (n : ℕ) (d : Direction) (p : Pipe) : Typ
   pub in_step : p.standing ≡ InStep
 
 pub send_admits : (places : Places) (n long : ℕ) (p : Pipe) → admit_send places n long ≡ Ok p → Admitted places n Out p
-send_admits places n long p h =
-    let (q, is, ok) = then_ok (present places n) (sendable long) p h in
-    let at = present_at places n q is in
-    let c = checks_ok (facing q.direction In) (not (leb 1 long && leb long 1024)) WrongDirection BadLength (by_standing q q.standing) p ok in
-    let s = standing_ok q p q.standing c.2 in
-    record { number_most = at.0; is_there = at.1 ∙ ap Some s.0; faces = sym (ap (λ x. x.direction) s.0) ∙ not_in q.direction c.0; in_step = sym (ap (λ x. x.standing) s.0) ∙ s.1 }
+send_admits places n long p h = grind (arith, common_steps)
 
 pub record Fetchable (places : Places) (n long : ℕ) (p : Pipe) : Type 0 where
   pub admitted : Admitted places n In p
   pub fits : fetchable long p ≡ Ok p
 
 pub fetch_admits : (places : Places) (n long : ℕ) (p : Pipe) → admit_fetch places n long ≡ Ok p → Fetchable places n long p
-fetch_admits places n long p h =
-    let (q, is, ok) = then_ok (present places n) (fetchable long) p h in
-    let at = present_at places n q is in
-    let c = checks_ok (facing q.direction Out) (not (good_buffer q.size long)) WrongDirection BadLength (by_standing q q.standing) p ok in
-    let s = standing_ok q p q.standing c.2 in
-    record {
-      admitted = record { number_most = at.0; is_there = at.1 ∙ ap Some s.0; faces = sym (ap (λ x. x.direction) s.0) ∙ not_out q.direction c.0; in_step = sym (ap (λ x. x.standing) s.0) ∙ s.1 };
-      fits = subst (λ x. fetchable long x ≡ Ok p) s.0 ok;
-    }
-
-recover_ok : (q p : Pipe) (s : Standing) → not_in_step q s ≡ Ok p → q ≡ p
-recover_ok q p InStep h = let z : ◌≡◌ {A = ℕ} 0 1 = cc in absurd (omega arith)
-recover_ok q p Doubtful h = cc
-recover_ok q p Halted h = cc
+fetch_admits places n long p h = grind (arith, common_steps)
 
 pub recover_admits : (places : Places) (n : ℕ) (p : Pipe) → admit_recover places n ≡ Ok p → (n ≤ 7) × (pipe_at places n ≡ Some p)
-recover_admits places n p h =
-    let (q, is, ok) = then_ok (present places n) recoverable p h in
-    let at = present_at places n q is in
-    (at.0, at.1 ∙ ap Some (recover_ok q p q.standing ok))
+recover_admits places n p h = grind (arith, common_steps)

@@ -1,11 +1,10 @@
 -- One step of a fetch beside the endpoint that it meets: what the step answers and writes, and that all other endpoints stay. Assumes nothing.
-use Rattle.std.proofs.Common.{◌≡◌, ℕ, ◌%◌, ◌<◌, ◌≤◌, ◌&&◌, eqb, ◌≢◌, List, length, get_or, set, sym, refl, ap, ◌∙◌, subst, ⊎_elim, arith}
+use Rattle.std.proofs.Common.{◌≡◌, ℕ, ◌%◌, ◌<◌, ◌≤◌, ◌≢◌, List, length, get_or, set, sym, refl, ap, ◌∙◌, subst, arith}
+use Rattle.std.proofs.lemmas.Grind.{common_steps}
 use Rattle.std.proofs.lemmas.List.{length-set, get_or-set_same, get_or-set_other}
-use Rattle.std.proofs.lemmas.Bool.{cases_eq}
 use Rattle.port.specs.declared.directions.Direction.{Direction}
 use Rattle.port.specs.declared.directions.Direction.TheVariants.{In}
 use Rattle.port.specs.declared.toggles.Toggle.{Toggle}
-use Rattle.port.specs.Directions.{facing}
 use Rattle.port.specs.Toggles.{toggle_of}
 use Rattle.port.specs.Endpoints.{Endpoint, nowhere, stands_at, place}
 use Rattle.port.specs.Reactions.{Met, first, in_met, in_at, at_place}
@@ -17,7 +16,7 @@ use Rattle.attempt.specs.Tries.{in_answer, in_arrival, in_room}
 use Rattle.host.specs.Fetching.{Fetching, next_room, fetch_step}
 use Rattle.host.specs.Effects.{Quiet, SameName}
 use Rattle.host.proofs.Accounts.{place_set}
-use Rattle.host.proofs.InReplies.{InReply, came, came_kept, again, nothing, stalled, in_reply}
+use Rattle.host.proofs.InReplies.{InReply, in_reply}
 use Rattle.host.proofs.InTry.{packet_in, room_after, outcome_in, in_code, in_toggle, in_arrives, in_writes, in_left}
 
 -- an endpoint keeps its name, and the bytes that it has taken
@@ -26,35 +25,19 @@ pub record Same (e e' : Endpoint) : Type 0 where
   pub taken : e'.taken ≡ e.taken
 
 refl_name : (e : Endpoint) → SameName e e
-refl_name e = record { same_address = refl; same_number = refl; same_direction = refl }
+refl_name e = grind (arith, common_steps)
 
 pub same_self : (e : Endpoint) → Same e e
 same_self e = record { name = refl_name e; taken = refl }
 
 same_then : (e e' e'' : Endpoint) → Same e e' → Same e' e'' → Same e e''
-same_then e e' e'' one two =
-    record {
-      name = record {
-        same_address = two.name.same_address ∙ one.name.same_address;
-        same_number = two.name.same_number ∙ one.name.same_number;
-        same_direction = two.name.same_direction ∙ one.name.same_direction;
-      };
-      taken = two.taken ∙ one.taken;
-    }
+same_then e e' e'' one two = grind (arith, common_steps)
 
 reply_same : (toggle : Toggle) (e : Endpoint) {m : Met} → InReply toggle e m → Same e m.endpoint
-reply_same toggle e (came same w) = record { name = record { same_address = refl; same_number = refl; same_direction = refl }; taken = refl }
-reply_same toggle e (came_kept same w) = same_self e
-reply_same toggle e (again other w) = record { name = record { same_address = refl; same_number = refl; same_direction = refl }; taken = refl }
-reply_same toggle e (nothing code h) = same_self e
-reply_same toggle e stalled = record { name = record { same_address = refl; same_number = refl; same_direction = refl }; taken = refl }
+reply_same toggle e h = grind (arith, common_steps)
 
 same_stands : (a n : ℕ) (d : Direction) (e e' : Endpoint) → SameName e e' → stands_at a n d e' ≡ stands_at a n d e
-same_stands a n d e e' s =
-    let address = s.same_address in
-    let number = s.same_number in
-    let direction = s.same_direction in
-    (λ i. eqb (address i) a && (eqb (number i) n && facing (direction i) d))
+same_stands a n d e e' s = grind (arith, common_steps)
 
 module _ (address endpoint size limit : ℕ) (low : 1 ≤ endpoint) (high : endpoint ≤ 15) (es₀ : List Endpoint) (i : ℕ) (within : i < length es₀) where
   -- what every state of a fetch keeps of the bus, from the bus before it
@@ -117,8 +100,4 @@ module _ (address endpoint size limit : ℕ) (low : 1 ≤ endpoint) (high : endp
 
   -- the same of every endpoint
   pub all_same : (s : Fetching) → Held s → (k : ℕ) → Same (get_or es₀ k nowhere) (get_or s.bus.devices.endpoints k nowhere)
-  all_same s h k =
-      ⊎_elim
-      (λ (e : k ≡ i). subst (λ n. Same (get_or es₀ n nowhere) (get_or s.bus.devices.endpoints n nowhere)) (sym e) h.mine)
-      (λ (ne : k ≢ i). subst (Same (get_or es₀ k nowhere)) (sym (h.others k ne)) (same_self (get_or es₀ k nowhere)))
-      (cases_eq k i)
+  all_same s h k = grind (arith, common_steps)

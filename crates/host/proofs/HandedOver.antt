@@ -1,24 +1,21 @@
 -- A fetch hands over the next packets that wait: what its run keeps, and what its answer says of it. Assumes nothing.
-use Rattle.std.proofs.Common.{◌≡◌, ℕ, suc, ◌-◌, ◌*◌, ◌/◌, ◌%◌, ◌<◌, ◌≤◌, Bool, true, false, cond, not, ◌&&◌, eqb, ltb, leb, List, [], ◌∷◌, ◌++◌, length, get_or, take, drop, Some, None, Ok, Err, Option, Result, sym, refl, ap, ◌∙◌, subst, ⊎_elim, append-nil, mul-le-mul_right, suc-mul, arith}
-use native.Mathlib.Nat.{zero-div}
-use Rattle.std.proofs.lemmas.Nat.{div-add-mod'}
+use Rattle.std.proofs.Common.{◌≡◌, ℕ, suc, ◌*◌, ◌/◌, ◌%◌, ◌<◌, ◌≤◌, Bool, true, false, cond, List, ◌++◌, length, get_or, take, drop, Ok, Err, Option, Result, sym, refl, ap, ◌∙◌, subst, ⊎_elim, mul-le-mul_right, suc-mul, arith}
+use Rattle.std.proofs.lemmas.Grind.{common_steps}
 use Rattle.std.proofs.lemmas.List.{length-take, length-drop}
-use Rattle.std.proofs.lemmas.Bool.{and_parts, and_cases, and_left, cases_Bool, cases_lt, eqb-true, eq-eqb, ne_eqb, lt-ltb, not-false, not_from_false, false≢true}
-use Rattle.port.specs.declared.directions.Direction.TheVariants.{Out, In}
+use Rattle.std.proofs.lemmas.Bool.{cases_lt}
+use Rattle.port.specs.declared.directions.Direction.TheVariants.{In}
 use Rattle.port.specs.declared.toggles.Toggle.{Toggle}
-use Rattle.port.specs.Directions.{facing}
 use Rattle.port.specs.Endpoints.{Endpoint, nowhere, place}
 use Rattle.port.specs.Reactions.{first}
 use Rattle.pipes.specs.declared.pipes.Pipe.{Pipe}
 use Rattle.pipes.specs.declared.pipes.Standing.TheVariants.{InStep}
 use Rattle.pipes.specs.declared.refusals.Refusal.{Refusal}
-use Rattle.pipes.specs.declared.refusals.Refusal.TheVariants.{WrongDirection, BadLength}
-use Rattle.pipes.specs.Answers.{number_of, answer_number}
+use Rattle.pipes.specs.Answers.{number_of}
 use Rattle.pipes.specs.Standings.{next_standing}
-use Rattle.pipes.specs.Checks.{fetchable, good_buffer, by_standing}
+use Rattle.pipes.specs.Checks.{fetchable}
 use Rattle.host.specs.Sending.{none_yet}
 use Rattle.host.specs.Fetching.{Fetching, fetching, fetch_start, written, fetch_step, fetch_going, fetch_budget, fetch_run, fetch_answer, fetch_event}
-use Rattle.host.specs.Handing.{cut_packets, handed_over}
+use Rattle.host.specs.Handing.{handed_over}
 use Rattle.host.specs.Effects.{Level, place_on, FetchesHandOverTheNextPackets}
 use Rattle.host.proofs.FetchBudgets.{goes, run_over}
 use Rattle.host.proofs.FetchHeld.{Held, made, reply_is, code_is, toggle_is, arrival_is, room_is, endpoint_is, step_held, all_same, same_self}
@@ -27,16 +24,10 @@ use Rattle.host.proofs.KeptBuffers.{KeptIn, step_kept, start_kept}
 use Rattle.host.proofs.Levels.{Flows, over, next, after_reply}
 use Rattle.host.proofs.Packets.{came_in}
 use Rattle.host.proofs.Runs.{run_keeps}
-use Rattle.host.proofs.Sent.{succeeded}
 
 -- a fetch that nothing has stopped leaves its pipe in step
 unstopped_in_step : (o : Option Refusal) → none_yet o ≡ true → next_standing InStep (fetch_event (number_of o)) ≡ InStep
-unstopped_in_step None h = refl
-unstopped_in_step (Some why) h = absurd (false≢true h)
-
-unstopped_zero : (o : Option Refusal) → none_yet o ≡ true → number_of o ≡ 0
-unstopped_zero None h = refl
-unstopped_zero (Some why) h = absurd (false≢true h)
+unstopped_in_step o h = grind (arith, common_steps)
 
 -- behind full packets a buffer for full packets has room for one more, or is full
 room_full : (size m k r : ℕ) (buffer : List ℕ) → r ≡ k * size → length buffer ≡ m * size → r < length buffer → length (take size (drop r buffer)) ≡ size
@@ -50,18 +41,10 @@ room_full size m k r buffer e l lt =
 
 -- a check that was passed
 passed : (p : Pipe) (t : Bool) (why : Refusal) (r : Result Pipe Refusal) → cond t (Err why) r ≡ Ok p → (t ≡ false) × (r ≡ Ok p)
-passed p true why r h = let z : ◌≡◌ {A = ℕ} 0 1 = cc in absurd (omega arith)
-passed p false why r h = (refl, h)
+passed p t why r h = grind (arith, common_steps)
 
 whole_buffer : (p : Pipe) (long : ℕ) → fetchable long p ≡ Ok p → long ≡ long / p.size * p.size
-whole_buffer p long h =
-    let one = passed p (facing p.direction Out) WrongDirection _ h in
-    let two = passed p (not (good_buffer p.size long)) BadLength (by_standing p p.standing) one.1 in
-    let good = not-false (good_buffer p.size long) two.0 in
-    let parts = and_parts (leb 1 long && leb long 1024) (ltb 0 p.size && eqb (long % p.size) 0) good in
-    let none = eqb-true (long % p.size) 0 (and_parts (ltb 0 p.size) (eqb (long % p.size) 0) parts.1).1 in
-    let d = div-add-mod' long p.size in
-    omega arith
+whole_buffer p long h = grind (arith, common_steps)
 
 module _ (address endpoint size limit : ℕ) (low : 1 ≤ endpoint) (high : endpoint ≤ 15) (some_size : 1 ≤ size) (some_limit : 1 ≤ limit) (before : List ℕ) (m : ℕ) (long : length before ≡ m * size) (es₀ : List Endpoint) (i : ℕ) (within : i < length es₀) (waited handed : List (List ℕ)) where
   -- what every state of a fetch keeps
@@ -81,7 +64,7 @@ module _ (address endpoint size limit : ℕ) (low : 1 ≤ endpoint) (high : endp
       let l = h.kept.long ∙ long in
       let full = room_full size m k q.received s.buffer whole.1 l going.more in
       let level : Level waited (handed ++ came_in size q.received false s.buffer) q.toggle e =
-      subst (λ z. Level waited (handed ++ came_in size q.received z s.buffer) q.toggle e) going.unended (h.flows.level (unstopped_in_step q.stop going.unstopped)) in
+      subst (λ z. Level waited (handed ++ came_in size q.received z s.buffer) q.toggle e) going.unended (h.flows.level (unstopped_in_step q.tally.stop going.unstopped)) in
       let met = made address endpoint size limit low high es₀ i within s h.held in
       let after = after_reply size limit waited handed some_size q s.buffer k whole.1 h.kept.within full e level (reply_is address endpoint size limit low high es₀ i within s h.held) in
       let code = code_is address endpoint size limit low high es₀ i within s h.held in
@@ -99,54 +82,12 @@ module _ (address endpoint size limit : ℕ) (low : 1 ≤ endpoint) (high : endp
             (subst (λ x. Flows size limit waited handed x buffer' met.endpoint) (sym (λ j. next size limit waited handed q (code j) (toggle j) (arrival j))) after));
       }
 
-  -- the answer of a fetch that has come to its end tells whether a short packet ended it
-  ended_is : (s : Fetching) → Keeps s → fetch_going address endpoint size limit s ≡ false → (eqb (answer_number (fetch_answer s.intake)) 0 && ltb s.intake.received (length s.buffer)) ≡ s.intake.ended
-  ended_is s h over =
-      let q = s.intake in
-      let n = number_of q.stop in
-      let less = ltb q.received (length s.buffer) in
-      ⊎_elim
-      (λ (none : none_yet q.stop ≡ true).
-      ap (λ t. t && less) (eq-eqb n 0 (unstopped_zero q.stop none))
-      ∙ ⊎_elim
-      (λ (yes : q.ended ≡ true). lt-ltb q.received (length s.buffer) (h.flows.short yes).0 ∙ sym yes)
-      (λ (no : q.ended ≡ false).
-      ⊎_elim
-      (λ f. absurd (false≢true (sym f ∙ none)))
-      (λ f.
-      ⊎_elim
-      (λ ended. absurd (false≢true (sym ended ∙ not_from_false q.ended no)))
-      (λ full. full ∙ sym no)
-      (and_cases (not q.ended) less f))
-      (and_cases (none_yet q.stop) (not q.ended && less) over))
-      (cases_Bool q.ended))
-      (λ (some : none_yet q.stop ≡ false).
-      and_left (eqb n 0) less (ne_eqb n 0 (λ z. false≢true (sym some ∙ succeeded q.stop z)))
-      ∙ ⊎_elim
-      (λ (yes : q.ended ≡ true). absurd (false≢true (sym some ∙ (h.flows.short yes).1)))
-      (λ (no : q.ended ≡ false). sym no)
-      (cases_Bool q.ended))
-      (cases_Bool (none_yet q.stop))
-
   handed_is : (s : Fetching) → Keeps s → fetch_going address endpoint size limit s ≡ false → handed_over size (fetch_answer s.intake) s.buffer ≡ came_in size s.intake.received s.intake.ended s.buffer
   unfolding handed_over
-  handed_is s h over =
-      let r = s.intake.received in
-      ap (λ t. cut_packets (r / size) size s.buffer ++ cond t (take (r - r / size * size) (drop (r / size * size) s.buffer) ∷ []) []) (ended_is s h over)
-
-  -- a fetch begins with nothing handed over
-  none_over : (toggle : Toggle) → over size limit waited handed (fetch_start limit toggle) before ≡ handed
-  none_over toggle = ap (λ n. handed ++ (cut_packets n size before ++ [])) (zero-div size) ∙ append-nil handed
+  handed_is s h over = grind (arith, common_steps)
 
   start_flows : (toggle : Toggle) (e : Endpoint) → Level waited handed toggle e → Flows size limit waited handed (fetch_start limit toggle) before e
-  start_flows toggle e level =
-      let none = none_over toggle in
-      record {
-        whole = λ _. (0, omega arith);
-        short = λ yes. absurd (false≢true yes);
-        front = (level.rest, level.front ∙ ap (λ l. l ++ level.rest) (sym none));
-        level = λ _. subst (λ l. Level waited l toggle e) (sym none) level;
-      }
+  start_flows toggle e level = grind (arith, common_steps)
 
 pub fetches_hand_over : FetchesHandOverTheNextPackets
 fetches_hand_over p buffer b waited handed admitted made quiet there level =

@@ -1,5 +1,6 @@
 -- One IN try on a bus where no received packet waits: what it answers, what it writes and what it does to the devices. Assumes nothing.
 use Rattle.std.proofs.Common.{◌≡◌, ℕ, zero, suc, ◌+◌, ◌*◌, ◌%◌, ◌<◌, ◌≤◌, Bool, true, false, cond, eqb, leb, List, [], ◌∷◌, ◌++◌, length, get_or, drop, Some, sym, refl, ap, ◌∙◌, subst, arith}
+use Rattle.std.proofs.lemmas.Grind.{common_steps}
 use Rattle.std.proofs.lemmas.Bool.{cond_both}
 use Rattle.port.specs.declared.toggles.Toggle.{Toggle}
 use Rattle.port.specs.declared.toggles.Toggle.TheVariants.{Data0, Data1}
@@ -20,8 +21,7 @@ use Rattle.host.specs.Effects.{Quiet}
 use Rattle.host.proofs.OutTry.{status_code}
 
 where_true : {A : Type 0} (t : Bool) (x y n : A) → (t ≡ true → x ≡ y) → cond t x n ≡ cond t y n
-where_true true x y n h = h refl
-where_true false x y n h = refl
+where_true t x y n h = grind (arith, common_steps)
 
 -- the bytes that wait in the chip are got one after another
 reads : (n : ℕ) (bs : List ℕ) (b : Bus) → b.chip.incoming ≡ bs → length bs ≡ n → gots 1 n b ≡ bs
@@ -67,10 +67,7 @@ begun_is a Data0 b = ap (after_put 29 0x10) (put_28 a b) ∙ put_29 0x10 _
 begun_is a Data1 b = ap (after_put 29 0x20) (put_28 a b) ∙ put_29 0x20 _
 
 status_toggle : (s r : Toggle) (x : ℕ) → x < 16 → toggle_of (receive_bit (32 * bit s + 16 * bit r + x)) ≡ r
-status_toggle Data0 Data0 x h = ap toggle_of (let z : receive_bit (32 * 0 + 16 * 0 + x) ≡ 0 = omega arith in z)
-status_toggle Data0 Data1 x h = ap toggle_of (let z : receive_bit (32 * 0 + 16 * 1 + x) ≡ 1 = omega arith in z)
-status_toggle Data1 Data0 x h = ap toggle_of (let z : receive_bit (32 * 1 + 16 * 0 + x) ≡ 0 = omega arith in z)
-status_toggle Data1 Data1 x h = ap toggle_of (let z : receive_bit (32 * 1 + 16 * 1 + x) ≡ 1 = omega arith in z)
+status_toggle s r x h = grind (arith, common_steps)
 
 -- what a try brings and what it makes of the room, by its result and the packet
 abbrev pub packet_in : ℕ → List ℕ → List ℕ → Arrival

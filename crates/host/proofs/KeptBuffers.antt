@@ -1,5 +1,6 @@
 -- A fetch keeps its buffer's length, and behind what was received its bytes. Assumes nothing.
-use Rattle.std.proofs.Common.{◌≡◌, ℕ, ◌+◌, ◌≤◌, Bool, eqb, List, ◌++◌, length, take, drop, Ok, Err, Result, sym, refl, ap, ◌∙◌, subst, arith}
+use Rattle.std.proofs.Common.{◌≡◌, ℕ, ◌+◌, ◌≤◌, Bool, eqb, List, ◌++◌, length, take, drop, Ok, Err, Result, sym, refl, ap, ◌∙◌, arith}
+use Rattle.std.proofs.lemmas.Grind.{common_steps}
 use Rattle.std.proofs.lemmas.List.{length-take, length-drop, drop-drop}
 use Rattle.port.specs.declared.toggles.Toggle.{Toggle}
 use Rattle.port.specs.Bus.{Bus}
@@ -14,7 +15,7 @@ use Rattle.host.specs.Calls.{fetch_by}
 use Rattle.host.specs.Effects.{FetchesKeepTheRestOfTheBuffer}
 use Rattle.host.proofs.Arrivals.{Brings, nothing, bytes, too_long, brings}
 use Rattle.host.proofs.Runs.{run_keeps}
-use Rattle.host.proofs.Writes.{written_length, written_behind, written_back}
+use Rattle.host.proofs.Writes.{written_length, written_behind}
 
 -- so many bytes were received into the buffer, which was this one before
 pub record Kept (before : List ℕ) (received : ℕ) (buffer : List ℕ) : Type 0 where
@@ -24,10 +25,7 @@ pub record Kept (before : List ℕ) (received : ℕ) (buffer : List ℕ) : Type 
 
 -- nothing more was received
 same_kept : (before : List ℕ) (i size : ℕ) (buffer : List ℕ) → Kept before i buffer → Kept before (i + 0) (written i (take size (drop i buffer)) buffer)
-same_kept before i size buffer k =
-    let none : i ≡ i + 0 = omega arith in
-    let back = written_back i size buffer k.within in
-    subst (Kept before (i + 0)) (sym back) (subst (λ n. Kept before n buffer) none k)
+same_kept before i size buffer k = grind (arith, common_steps)
 
 more_kept : (before : List ℕ) (i size : ℕ) (bs buffer : List ℕ) → Kept before i buffer → length bs ≤ length (take size (drop i buffer)) → Kept before (i + length bs) (written i (bs ++ drop (length bs) (take size (drop i buffer))) buffer)
 more_kept before i size bs buffer k fits =

@@ -1,37 +1,35 @@
 -- Host and device stay level through every reply of the device, and each packet is handed over once. Assumes nothing.
+use Rattle.std.proofs.lemmas.Grind.{common_steps}
 use Rattle.std.proofs.Common.{◌≡◌, ℕ, suc, ◌+◌, ◌*◌, ◌<◌, ◌≤◌, Bool, true, false, cond, eqb, ltb, leb, ◌⊎◌, List, [], ◌∷◌, ◌++◌, length, take, drop, sym, refl, ap, ◌∙◌, subst, inl, inr, ⊎_elim, append_assoc, suc-mul, arith}
 use Rattle.std.proofs.lemmas.List.{length-take, length-drop}
-use Rattle.std.proofs.lemmas.Bool.{both_ways, cases_Bool, leb-true, ltb-true, ltb-false, ne_eqb, false≢true}
+use Rattle.std.proofs.lemmas.Bool.{cases_Bool, leb-true, ltb-true, ltb-false, ne_eqb, false≢true}
 use Rattle.port.specs.declared.toggles.Toggle.{Toggle}
-use Rattle.port.specs.declared.toggles.Toggle.TheVariants.{Data0, Data1}
 use Rattle.port.specs.Toggles.{agree, flip}
 use Rattle.port.specs.Endpoints.{Endpoint, halt, handed, rest}
 use Rattle.port.specs.Reactions.{Met, first}
 use Rattle.port.specs.Launches.{advanced}
 use Rattle.attempt.specs.declared.tries.Arrival.{Arrival}
-use Rattle.attempt.specs.declared.tries.Arrival.TheVariants.{Nothing, Read, TooLong}
+use Rattle.attempt.specs.declared.tries.Arrival.TheVariants.{Read, TooLong}
+use Rattle.host.specs.Tallies.{tallied}
 use Rattle.host.specs.declared.fetching.Intake.{Intake}
 use Rattle.pipes.specs.declared.pipes.Standing.TheVariants.{InStep, Doubtful}
 use Rattle.pipes.specs.Answers.{number_of}
 use Rattle.pipes.specs.Standings.{next_standing}
-use Rattle.pipes.specs.Counting.{fresh_counts, verdict, counted, succeeded, stop_of}
 use Rattle.host.specs.Sending.{none_yet}
-use Rattle.host.specs.Fetching.{bytes_in, is_short, long_stop, written, fetch_event}
+use Rattle.host.specs.Fetching.{bytes_in, is_short, written, fetch_event, long_stopped}
 use Rattle.host.specs.Effects.{Level}
-use Rattle.host.proofs.Accounts.{agree_self, agree_flip}
 use Rattle.host.proofs.InReplies.{Waits, InReply, came, came_kept, again, nothing, stalled}
 use Rattle.host.proofs.InTry.{packet_in, room_after}
 use Rattle.host.proofs.Packets.{came_in, one_more}
-use Rattle.host.proofs.Writes.{written_length, written_front, written_bytes, written_back}
+use Rattle.host.proofs.Writes.{written_length, written_front, written_bytes}
 
 -- toggles
 flip_flip : (t : Toggle) → flip (flip t) ≡ t
-flip_flip Data0 = refl
-flip_flip Data1 = refl
+flip_flip t = grind (arith, common_steps)
 
 -- a pipe that is in doubt is not in step
 not_in_step : Doubtful ≡ InStep → ⊥
-not_in_step e = let z : ◌≡◌ {A = ℕ} 0 1 = cc in omega arith
+not_in_step e = cc
 
 module _ (size limit : ℕ) (waited before : List (List ℕ)) where
   -- the packets handed over in all, those of this fetch behind the others
@@ -42,20 +40,17 @@ module _ (size limit : ℕ) (waited before : List (List ℕ)) where
   -- first that waited; and host and device are level, but where a packet was too long
   pub record Flows (q : Intake) (buffer : List ℕ) (e : Endpoint) : Type 0 where
     pub whole : q.ended ≡ false → (k : ℕ) × (q.received ≡ k * size)
-    pub short : q.ended ≡ true → (q.received < length buffer) × (none_yet q.stop ≡ true)
+    pub short : q.ended ≡ true → (q.received < length buffer) × (none_yet q.tally.stop ≡ true)
     pub front : (later : List (List ℕ)) × (waited ≡ over q buffer ++ later)
-    pub level : next_standing InStep (fetch_event (number_of q.stop)) ≡ InStep → Level waited (over q buffer) q.toggle e
+    pub level : next_standing InStep (fetch_event (number_of q.tally.stop)) ≡ InStep → Level waited (over q buffer) q.toggle e
 
   -- the progress after a try with this code, toggle and arrival
   abbrev pub next : Intake → ℕ → Toggle → Arrival → Intake
   next q code t x =
       record {
         received = q.received + bytes_in x;
-        counts = cond (succeeded (verdict code q.counts)) (fresh_counts limit) (counted code q.counts);
-        tries = q.tries + 1;
-        last = code;
+        tally = long_stopped x (tallied limit q.tally code);
         toggle = t;
-        stop = long_stop x (stop_of (verdict code q.counts));
         ended = is_short size x;
       }
 
@@ -69,23 +64,11 @@ module _ (size limit : ℕ) (waited before : List (List ℕ)) where
 
     -- nothing was written, and nothing received
     still : (code : ℕ) (t : Toggle) (x : Arrival) → bytes_in x ≡ 0 → is_short size x ≡ false → over (next q code t x) (written q.received room buffer) ≡ so_far
-    still code t x none same =
-        let n : q.received + bytes_in x ≡ q.received = omega arith in
-        let w = written_back q.received size buffer here in
-        (λ j. before ++ came_in size (n j) (same j) (w j))
+    still code t x none same = grind (arith, common_steps)
 
     -- a try that brings no packet: host and device are as level as they were
     unmoved : (code : ℕ) (packet : List ℕ) (e : Endpoint) → eqb code 0 ≡ false → Level waited so_far q.toggle e → Flows (next q code (advanced code q.toggle) (packet_in code packet room)) (written q.received (room_after code packet room) buffer) e
-    unmoved code packet e f level =
-        let P : Bool → Type 0 = λ z. Flows (next q code (cond z (flip q.toggle) q.toggle) (cond z (cond (leb (length packet) (length room)) (Read (length packet)) TooLong) Nothing)) (written q.received (cond z (cond (leb (length packet) (length room)) (packet ++ drop (length packet) room) room) room) buffer) e in
-        let same = still code q.toggle Nothing refl refl in
-        subst P (sym f)
-        (record {
-          whole = λ _. (k, omega arith);
-          short = λ t. absurd (false≢true t);
-          front = (level.rest, level.front ∙ ap (λ l. l ++ level.rest) (sym same));
-          level = λ _. subst (λ l. Level waited l q.toggle e) (sym same) level;
-        })
+    unmoved code packet e f level = grind (arith, common_steps)
 
     -- a packet comes that waited behind those handed over
     module _ (packet : List ℕ) (later : List (List ℕ)) (e : Endpoint) (split : waited ≡ so_far ++ (packet ∷ later)) (at : ((e.toggle ≡ flip q.toggle) × (e.waiting ≡ later)) ⊎ ((e.toggle ≡ q.toggle) × (e.waiting ≡ packet ∷ later))) where
@@ -141,11 +124,7 @@ module _ (size limit : ℕ) (waited before : List (List ℕ)) where
     module _ (e : Endpoint) (level : Level waited so_far q.toggle e) where
       -- what waits first, where the toggles agree, is the next packet
       next_is : agree q.toggle e.toggle ≡ true → (w : Waits e.waiting) → (e.toggle ≡ q.toggle) × (waited ≡ so_far ++ (w.packet ∷ w.later))
-      next_is same w =
-          ⊎_elim
-          (λ first. (first.0, level.front ∙ ap (λ l. so_far ++ l) (sym first.1 ∙ w.split)))
-          (λ second. absurd (both_ways (agree q.toggle e.toggle) (agree_flip q.toggle e.toggle second.3) same))
-          level.at
+      next_is same w = grind (arith, common_steps)
 
       taken : (e' : Endpoint) (w : Waits e.waiting) → agree q.toggle e.toggle ≡ true → ((e'.toggle ≡ flip q.toggle) × (e'.waiting ≡ w.later)) ⊎ ((e'.toggle ≡ q.toggle) × (e'.waiting ≡ w.packet ∷ w.later)) → Flows (next q 0 (flip q.toggle) (packet_in 0 (first e.waiting) room)) (written q.received (room_after 0 (first e.waiting) room) buffer) e'
       taken e' w same at =
@@ -154,16 +133,7 @@ module _ (size limit : ℕ) (waited before : List (List ℕ)) where
 
       -- a packet that came before is dropped, and the device goes on: the toggles agree again
       gone_on : agree q.toggle e.toggle ≡ false → Level waited so_far q.toggle (handed e)
-      gone_on other =
-          record {
-            rest = level.rest;
-            front = level.front;
-            at =
-                ⊎_elim
-                (λ first. absurd (both_ways (agree q.toggle e.toggle) other (agree_self q.toggle e.toggle first.0)))
-                (λ second. inl (ap flip second.3 ∙ flip_flip q.toggle, ap rest second.4))
-                level.at;
-          }
+      gone_on other = grind (arith, common_steps)
 
       pub after_reply : {m : Met} → InReply q.toggle e m → Flows (next q m.code (advanced m.code q.toggle) (packet_in m.code (first e.waiting) room)) (written q.received (room_after m.code (first e.waiting) room) buffer) m.endpoint
       after_reply (came same w) = taken (handed e) w same (inl (ap flip (next_is same w).0, ap rest w.split))

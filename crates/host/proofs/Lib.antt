@@ -16,6 +16,7 @@ mod Levels
 pub mod Names
 mod Only
 mod Opened
+mod Opens
 mod OutTry
 mod Packets
 pub mod Places
@@ -27,6 +28,7 @@ mod Runs
 pub mod Sent
 mod StageTry
 mod Steps
+mod Tallying
 mod Targets
 pub mod Touches
 mod Writes

@@ -1,6 +1,6 @@
 -- No register access makes an endpoint, takes one away or changes a name, and so no call does. Assumes nothing.
-use Rattle.std.proofs.Common.{◌≡◌, ℕ, Bool, true, false, cond, eqb, ltb, List, length, get_or, set, refl, ◌∙◌}
-use Rattle.std.proofs.lemmas.List.{length-set}
+use Rattle.std.proofs.Common.{arith, ◌≡◌, ℕ, eqb, List, length, get_or, set}
+use Rattle.std.proofs.lemmas.Grind.{common_steps}
 use Rattle.std.proofs.lemmas.Bool.{cond_both}
 use Rattle.port.specs.declared.directions.Direction.TheVariants as directions
 use Rattle.port.specs.declared.fates.Fate.{Fate}
@@ -8,34 +8,20 @@ use Rattle.port.specs.declared.fates.Fate.TheVariants.{Arrives, Lost, Unheard, N
 use Rattle.port.specs.declared.toggles.Toggle.{Toggle}
 use Rattle.port.specs.declared.transactions.Transaction.{Transaction}
 use Rattle.port.specs.declared.transactions.Transaction.TheVariants.{Setup, In, Out, HsIn}
-use Rattle.port.specs.Toggles.{agree}
-use Rattle.port.specs.Chip.{Chip, packet, request, load_sending, load_setup, set_count, clear_flags, set_address, set_toggles, take_incoming}
-use Rattle.port.specs.Endpoints.{Endpoint, nowhere, cleared, handed, place, lives}
-use Rattle.port.specs.Devices.{Devices, clear_place, after_setup}
-use Rattle.port.specs.Reactions.{Met, met, in_reaches, in_met, out_met, Outcome, outcome, out_at, in_at, at_place, at_address, setup_met}
+use Rattle.port.specs.Chip.{Chip, packet, request, load_sending, load_setup, set_count, clear_flags, set_address, set_toggles}
+use Rattle.port.specs.Endpoints.{Endpoint, nowhere, place}
+use Rattle.port.specs.Devices.{Devices, after_setup}
+use Rattle.port.specs.Reactions.{in_met, out_met, Outcome, out_at, in_at, at_place, at_address, setup_met}
 use Rattle.port.specs.Bus.{Bus, with_chip, next_fate}
 use Rattle.port.specs.Launches.{outcome_of, carried, refused, launch}
 use Rattle.port.specs.Accesses.{after_put, after_get}
 use Rattle.port.proofs.Single.{launch_cases}
 use Rattle.host.specs.Effects.{SameName, SameEndpoints}
 use Rattle.host.specs.Laws.{Reached, here, put, get, launch as launched}
-use Rattle.host.proofs.Only.{same_name, name_twice, each_set}
 use Rattle.host.proofs.Touches.{met_named}
 
-in_reached_named : (heard : Bool) (toggle : Toggle) (e : Endpoint) → SameName e (in_reaches heard toggle e).endpoint
-in_reached_named heard toggle e =
-    let P : Met → Type 0 = λ m. SameName e m.endpoint in
-    cond_both e.halted (met 5 e) _ P (λ _. same_name e) λ _.
-    cond_both (ltb 0 (length e.waiting)) (met (cond (agree toggle e.toggle) 0 6) (cond heard (handed e) e)) (met 4 e) P
-    (λ _. cond_both heard (handed e) e (SameName e) (λ _. record { same_address = refl; same_number = refl; same_direction = refl }) (λ _. same_name e))
-    (λ _. same_name e)
-
 in_named : (fate : Fate) (toggle : Toggle) (e : Endpoint) → SameName e (in_met fate toggle e).endpoint
-in_named Arrives toggle e = in_reached_named true toggle e
-in_named (Lost code) toggle e = same_name e
-in_named (Unheard code) toggle e = in_reached_named false toggle e
-in_named Nak toggle e = same_name e
-in_named Stall toggle e = record { same_address = refl; same_number = refl; same_direction = refl }
+in_named fate toggle e = grind (arith, common_steps)
 
 -- two lists of endpoints with the same names in the same places
 record Named (es es' : List Endpoint) : Type 0 where
@@ -43,24 +29,22 @@ record Named (es es' : List Endpoint) : Type 0 where
   pub same_names : (k : ℕ) → SameName (get_or es k nowhere) (get_or es' k nowhere)
 
 same_list : (es : List Endpoint) → Named es es
-same_list es = record { as_many = refl; same_names = λ k. same_name (get_or es k nowhere) }
+same_list es = grind (arith, common_steps)
 
 set_named : (es : List Endpoint) (i : ℕ) (e' : Endpoint) → SameName (get_or es i nowhere) e' → Named es (set es i e')
-set_named es i e' h = record { as_many = length-set es i e'; same_names = each_set SameName same_name es i e' h }
+set_named es i e' h = grind (arith, common_steps)
 
 at_place_named : (f : Devices → ℕ → Outcome) (d : Devices) (i : ℕ) → Named d.endpoints (f d i).devices.endpoints → Named d.endpoints (at_place f d i).devices.endpoints
 unfolding at_place
-at_place_named f d i h = cond_both (ltb i (length d.endpoints)) (f d i) (outcome 14 d) (λ o. Named d.endpoints o.devices.endpoints) (λ _. h) (λ _. same_list d.endpoints)
+at_place_named f d i h = grind (arith, common_steps)
 
 at_address_named : (address : ℕ) (o : Outcome) (d : Devices) → Named d.endpoints o.devices.endpoints → Named d.endpoints (at_address address o d).devices.endpoints
 unfolding at_address
-at_address_named address o d h = cond_both (lives address d.endpoints) o (outcome 14 d) (λ x. Named d.endpoints x.devices.endpoints) (λ _. h) (λ _. same_list d.endpoints)
+at_address_named address o d h = grind (arith, common_steps)
 
 setup_named : (address : ℕ) (bytes : List ℕ) (d : Devices) → Named d.endpoints (after_setup address bytes d).endpoints
 unfolding after_setup
-setup_named address bytes d =
-    let i = clear_place address bytes d.endpoints in
-    set_named d.endpoints i (cleared (get_or d.endpoints i nowhere)) (record { same_address = refl; same_number = refl; same_direction = refl })
+setup_named address bytes d = grind (arith, common_steps)
 
 setup_met_named : (address : ℕ) (bytes : List ℕ) (d : Devices) (fate : Fate) → Named d.endpoints (setup_met address bytes d fate).devices.endpoints
 setup_met_named address bytes d Arrives = setup_named address bytes d
@@ -80,17 +64,13 @@ outcome_named (Out number) fate c d =
 outcome_named HsIn fate c d = at_address_named c.address _ d (same_list d.endpoints)
 
 pub same_bus : (b : Bus) → SameEndpoints b b
-same_bus b = record { as_many = refl; same_names = λ k. same_name (get_or b.devices.endpoints k nowhere) }
+same_bus b = grind (arith, common_steps)
 
 pub bus_twice : (x y z : Bus) → SameEndpoints x y → SameEndpoints y z → SameEndpoints x z
-bus_twice x y z one two =
-    record {
-      as_many = two.as_many ∙ one.as_many;
-      same_names = λ k. name_twice (get_or x.devices.endpoints k nowhere) (get_or y.devices.endpoints k nowhere) (get_or z.devices.endpoints k nowhere) (one.same_names k) (two.same_names k);
-    }
+bus_twice x y z one two = grind (arith, common_steps)
 
 chip_named : (b : Bus) (c : Chip) → SameEndpoints b (with_chip b c)
-chip_named b c = record { as_many = refl; same_names = λ k. same_name (get_or b.devices.endpoints k nowhere) }
+chip_named b c = grind (arith, common_steps)
 
 refused_named : (b : Bus) → SameEndpoints b (refused b)
 unfolding refused
@@ -113,7 +93,7 @@ put_named register value b =
 
 get_named : (register : ℕ) (b : Bus) → SameEndpoints b (after_get register b)
 unfolding after_get
-get_named register b = cond_both (eqb register 1) (with_chip b (take_incoming b.chip)) b (SameEndpoints b) (λ _. chip_named b _) (λ _. same_bus b)
+get_named register b = grind (arith, common_steps)
 
 -- however a bus was reached by accesses
 pub reached_named : {n : ℕ} {b b' : Bus} → Reached n b b' → SameEndpoints b b'

@@ -1,81 +1,44 @@
 -- A clear request that succeeds brings the endpoint to DATA0, not halted. Assumes nothing.
-use Rattle.std.proofs.Common.{◌≡◌, ℕ, ◌+◌, ◌-◌, ◌*◌, ◌%◌, ◌<◌, ◌≤◌, Bool, true, false, cond, not, eqb, ltb, leb, List, [], length, get_or, set, Some, Option, sym, refl, ap, ◌∙◌, subst, ⊎_elim, arith}
+use Rattle.std.proofs.lemmas.Grind.{common_steps}
+use Rattle.std.proofs.Common.{◌≡◌, ℕ, ◌+◌, ◌-◌, ◌*◌, ◌%◌, ◌<◌, ◌≤◌, true, false, cond, not, eqb, ltb, List, [], length, get_or, set, Some, sym, refl, ap, ◌∙◌, subst, ⊎_elim, arith}
 use Rattle.std.proofs.lemmas.List.{length-set, get_or-set_same, set_past}
-use Rattle.std.proofs.lemmas.Bool.{cond_both, cases_lt, and_parts, and_cases, ltb-true, eqb-true, false≢true}
+use Rattle.std.proofs.lemmas.Bool.{cases_lt, and_parts, and_cases, ltb-true, false≢true}
 use Rattle.port.specs.declared.directions.Direction.{Direction}
 use Rattle.port.specs.declared.fates.Fate.{Fate}
-use Rattle.port.specs.declared.fates.Fate.TheVariants.{Arrives, Lost, Unheard, Nak, Stall}
 use Rattle.port.specs.declared.setups.Heard.{Heard}
 use Rattle.port.specs.declared.toggles.Toggle.TheVariants.{Data0}
 use Rattle.port.specs.Fates.{Real}
-use Rattle.port.specs.Endpoints.{nowhere, cleared, place, lives}
+use Rattle.port.specs.Endpoints.{nowhere, cleared, place}
 use Rattle.port.specs.Devices.{Devices, with_heard, cleared_at, clear_place, after_setup, heard_good}
-use Rattle.port.specs.Reactions.{outcome, at_address, setup_met, setup_outcome, hs_code, hs_outcome}
+use Rattle.port.specs.Reactions.{at_address, setup_outcome, hs_outcome}
 use Rattle.port.specs.Bus.{Bus, next_fate}
 use Rattle.port.proofs.Codes.{next_real}
 use Rattle.attempt.specs.Tries.{stage_answer, after_stage}
 use Rattle.pipes.specs.declared.counting.Counts.{Counts}
-use Rattle.pipes.specs.declared.counting.Verdict.{Verdict}
-use Rattle.pipes.specs.declared.counting.Verdict.TheVariants.{Succeeded, Again, Stop}
+use Rattle.host.specs.declared.tallies.Tally.{Tally}
 use Rattle.host.specs.declared.opening.Stage.{Stage}
 use Rattle.host.specs.declared.opening.Stage.TheVariants.{Setup, Handshake, Done}
-use Rattle.pipes.specs.declared.refusals.Refusal.{Refusal}
-use Rattle.pipes.specs.declared.refusals.Refusal.TheVariants.{NakLimit, ThirdMiss, Stalled}
 use Rattle.pipes.specs.Counting.{fresh_counts, verdict, counted, succeeded, stop_of}
 use Rattle.host.specs.Opening.{Requesting, requesting, clear_request, next_stage, is_done, stage_value, stage_bytes, clear_start, clear_step, clear_going, clear_budget, clear_run}
 use Rattle.host.specs.Sending.{none_yet}
+use Rattle.host.proofs.Tallying.{counts_kept}
 use Rattle.host.proofs.Accounts.{place_set}
 use Rattle.pipes.proofs.Judging.{Bounds, won, again, stops, judge_cases}
 use Rattle.host.proofs.Runs.{run_keeps, run_ends}
 use Rattle.host.proofs.StageTry.{setup_staged, hs_staged}
 use Rattle.host.proofs.Targets.{finds}
 
--- only result 0 succeeds
-won_zero : (code : ℕ) (c : Counts) → succeeded (verdict code c) ≡ true → code ≡ 0
-won_zero code c h =
-    let P : Verdict → Type 0 = λ v. succeeded v ≡ true → code ≡ 0 in
-    cond_both (eqb code 0) Succeeded _ P (λ t _. eqb-true code 0 t)
-    (λ _. cond_both (eqb code 5) (Stop Stalled) _ P (λ _ e. absurd (false≢true e))
-    (λ _. cond_both (eqb code 4) (cond (leb c.naks 1) (Stop NakLimit) Again) (cond (leb c.misses 1) (Stop ThirdMiss) Again) P
-    (λ _. cond_both (leb c.naks 1) (Stop NakLimit) Again P (λ _ e. absurd (false≢true e)) (λ _ e. absurd (false≢true e)))
-    (λ _. cond_both (leb c.misses 1) (Stop ThirdMiss) Again P (λ _ e. absurd (false≢true e)) (λ _ e. absurd (false≢true e)))))
-    h
-
--- a SETUP with result 0 was heard
-setup_met_zero : (a : ℕ) (bytes : List ℕ) (d : Devices) (fate : Fate) → Real fate → (setup_met a bytes d fate).code ≡ 0 → (setup_met a bytes d fate).devices ≡ after_setup a bytes d
-setup_met_zero a bytes d Arrives r e = refl
-setup_met_zero a bytes d (Lost code) r e = absurd (omega arith)
-setup_met_zero a bytes d (Unheard code) r e = absurd (omega arith)
-setup_met_zero a bytes d Nak r e = absurd (omega arith)
-setup_met_zero a bytes d Stall r e = absurd (omega arith)
-
 setup_zero : (a : ℕ) (fate : Fate) (d : Devices) (bytes : List ℕ) → Real fate → (setup_outcome a fate d bytes).code ≡ 0 → (setup_outcome a fate d bytes).devices ≡ after_setup a bytes d
 unfolding at_address
-setup_zero a fate d bytes r =
-    cond_both (lives a d.endpoints) (setup_met a bytes d fate) (outcome 14 d) (λ o. o.code ≡ 0 → o.devices ≡ after_setup a bytes d)
-    (λ _. setup_met_zero a bytes d fate r) (λ _ e. absurd (omega arith))
-
--- an HS-IN with result 0 says that the last setup was good, and changes no device
-good_zero : (b : Bool) → ◌≡◌ {A = ℕ} (cond b 0 5) 0 → b ≡ true
-good_zero true e = refl
-good_zero false e = absurd (omega arith)
-
-hs_code_zero : (a : ℕ) (d : Devices) (fate : Fate) → Real fate → hs_code a d fate ≡ 0 → heard_good a d.heard ≡ true
-hs_code_zero a d Arrives r e = good_zero (heard_good a d.heard) e
-hs_code_zero a d (Lost code) r e = absurd (omega arith)
-hs_code_zero a d (Unheard code) r e = good_zero (heard_good a d.heard) e
-hs_code_zero a d Nak r e = absurd (omega arith)
-hs_code_zero a d Stall r e = absurd (omega arith)
+setup_zero a fate d bytes r = grind (arith, common_steps)
 
 hs_zero : (a : ℕ) (fate : Fate) (d : Devices) → Real fate → (hs_outcome a fate d).code ≡ 0 → heard_good a d.heard ≡ true
 unfolding at_address
-hs_zero a fate d r =
-    cond_both (lives a d.endpoints) (outcome (hs_code a d fate) d) (outcome 14 d) (λ o. o.code ≡ 0 → heard_good a d.heard ≡ true)
-    (λ _. hs_code_zero a d fate r) (λ _ e. absurd (omega arith))
+hs_zero a fate d r = grind (arith, common_steps)
 
 pub hs_kept : (a : ℕ) (fate : Fate) (d : Devices) → (hs_outcome a fate d).devices ≡ d
 unfolding at_address
-hs_kept a fate d = cond_both (lives a d.endpoints) (outcome (hs_code a d fate) d) (outcome 14 d) (λ o. o.devices ≡ d) (λ _. refl) (λ _. refl)
+hs_kept a fate d = grind (arith, common_steps)
 
 module _ (a e : ℕ) (way : Direction) (limit : ℕ) (low : 1 ≤ e) (high : e ≤ 15) (some : 1 ≤ limit) where
   abbrev pub spot_in : Devices → ℕ
@@ -122,28 +85,16 @@ module _ (a e : ℕ) (way : Direction) (limit : ℕ) (low : 1 ≤ e) (high : e �
   pub record Asked (s : Requesting) : Type 0 where
     pub no_setup : s.bus.chip.setup ≡ []
     pub no_sending : s.bus.chip.sending ≡ []
-    pub bounds : Bounds limit s.clearing.counts
+    pub bounds : Bounds limit s.clearing.tally.counts
     pub known : Known s.clearing.stage s.bus.devices
-
-  fresh_bounds : Bounds limit (fresh_counts limit)
-  fresh_bounds = record { some_misses = omega arith; most_misses = omega arith; some_naks = some; most_naks = omega arith }
-
-  counts_kept : (code : ℕ) (c : Counts) → Bounds limit c → Bounds limit (cond (succeeded (verdict code c)) (fresh_counts limit) (counted code c))
-  counts_kept code c h =
-      elim (judge_cases limit code c h) [
-        | won v n ↦ subst (λ x. Bounds limit (cond (succeeded x) (fresh_counts limit) (counted code c))) (sym v) fresh_bounds
-        | again v n k ↦ subst (λ x. Bounds limit (cond (succeeded x) (fresh_counts limit) (counted code c))) (sym v) k
-        | stops why v k ↦ subst (λ x. Bounds limit (cond (succeeded x) (fresh_counts limit) (counted code c))) (sym v) k
-      ]
 
   -- the next stage is known where the try succeeds, and the present one where it does not
   known_after : (code : ℕ) (c : Counts) (stage : Stage) (d d' : Devices) → (code ≡ 0 → Known (next_stage stage) d') → Known stage d' → Known (cond (succeeded (verdict code c)) (next_stage stage) stage) d'
-  known_after code c stage d d' up same =
-      cond_both (succeeded (verdict code c)) (next_stage stage) stage (λ x. Known x d') (λ t. up (won_zero code c t)) (λ _. same)
+  known_after code c stage d d' up same = grind (arith, common_steps)
 
-  step_at : (stage : Stage) (c : Counts) (tries last : ℕ) (stop : Option Refusal) (b : Bus) → Asked (requesting (record { stage = stage; counts = c; tries = tries; last = last; stop = stop }) b) → clear_going a e way limit (requesting (record { stage = stage; counts = c; tries = tries; last = last; stop = stop }) b) ≡ true → Asked (clear_step a e way limit (requesting (record { stage = stage; counts = c; tries = tries; last = last; stop = stop }) b))
+  step_at : (stage : Stage) (t : Tally) (b : Bus) → Asked (requesting (record { stage = stage; tally = t }) b) → clear_going a e way limit (requesting (record { stage = stage; tally = t }) b) ≡ true → Asked (clear_step a e way limit (requesting (record { stage = stage; tally = t }) b))
   unfolding Known
-  step_at Setup c tries last stop b h g =
+  step_at Setup t b h g =
       let bytes = clear_request e way in
       let fate = next_fate b.fates in
       let staged = setup_staged a bytes b h.no_setup refl in
@@ -151,15 +102,15 @@ module _ (a e : ℕ) (way : Direction) (limit : ℕ) (low : 1 ≤ e) (high : e �
       record {
         no_setup = staged.no_setup;
         no_sending = staged.no_sending;
-        bounds = counts_kept code c h.bounds;
+        bounds = counts_kept limit some code t h.bounds;
         known =
-            known_after code c Setup b.devices (after_stage a 0x10 bytes b).devices
+            known_after code t.counts Setup b.devices (after_stage a 0x10 bytes b).devices
             (λ zero.
             let o : (setup_outcome (a % 128) fate b.devices bytes).code ≡ 0 = sym staged.code ∙ zero in
             subst (Known Handshake) (sym (staged.devices ∙ setup_zero (a % 128) fate b.devices bytes (next_real b.fates) o)) (heard_known b.devices))
             tt;
       }
-  step_at Handshake c tries last stop b h g =
+  step_at Handshake t b h g =
       let fate = next_fate b.fates in
       let d = b.devices in
       let staged = hs_staged a b h.no_setup in
@@ -168,9 +119,9 @@ module _ (a e : ℕ) (way : Direction) (limit : ℕ) (low : 1 ≤ e) (high : e �
       record {
         no_setup = staged.no_setup;
         no_sending = staged.no_sending;
-        bounds = counts_kept code c h.bounds;
+        bounds = counts_kept limit some code t h.bounds;
         known =
-            known_after code c Handshake d (after_stage a 0x80 [] b).devices
+            known_after code t.counts Handshake d (after_stage a 0x80 [] b).devices
             (λ zero.
             let o : (hs_outcome (a % 128) fate d).code ≡ 0 = sym staged.code ∙ zero in
             let good = sym (ap (heard_good (a % 128)) h.known.0) ∙ hs_zero (a % 128) fate d (next_real b.fates) o in
@@ -178,10 +129,10 @@ module _ (a e : ℕ) (way : Direction) (limit : ℕ) (low : 1 ≤ e) (high : e �
             subst (Known Done) (sym same) (h.known.1 inside))
             (subst (Known Handshake) (sym same) h.known);
       }
-  step_at Done c tries last stop b h g = absurd (false≢true (and_parts (none_yet stop) false g).1)
+  step_at Done t b h g = absurd (false≢true (and_parts (none_yet t.stop) false g).1)
 
   step_asked : (s : Requesting) → Asked s → clear_going a e way limit s ≡ true → Asked (clear_step a e way limit s)
-  step_asked s h g = step_at s.clearing.stage s.clearing.counts s.clearing.tries s.clearing.last s.clearing.stop s.bus h g
+  step_asked s h g = step_at s.clearing.stage s.clearing.tally s.bus h g
 
   -- how many stages are left
   rank : Stage → ℕ
@@ -190,29 +141,23 @@ module _ (a e : ℕ) (way : Direction) (limit : ℕ) (low : 1 ≤ e) (high : e �
   rank Done = 0
 
   left : Requesting → ℕ
-  left s = rank s.clearing.stage * (limit + 3) + s.clearing.counts.misses + s.clearing.counts.naks - (limit + 3)
+  left s = rank s.clearing.stage * (limit + 3) + s.clearing.tally.counts.misses + s.clearing.tally.counts.naks - (limit + 3)
 
   some_at : (stage : Stage) (c : Counts) → Bounds limit c → not (is_done stage) ≡ true → 0 < rank stage * (limit + 3) + c.misses + c.naks - (limit + 3)
   unfolding rank
-  some_at Setup c h g = omega (arith, h.some_misses)
-  some_at Handshake c h g = omega (arith, h.some_misses)
-  some_at Done c h g = absurd (false≢true g)
+  some_at stage c h g = grind (arith, common_steps)
 
   some_left : (s : Requesting) → Asked s → clear_going a e way limit s ≡ true → 0 < left s
   unfolding left
-  some_left s h g = some_at s.clearing.stage s.clearing.counts h.bounds (and_parts (none_yet s.clearing.stop) (not (is_done s.clearing.stage)) g).1
+  some_left s h g = some_at s.clearing.stage s.clearing.tally.counts h.bounds (and_parts (none_yet s.clearing.tally.stop) (not (is_done s.clearing.stage)) g).1
 
   on_won : (stage : Stage) (c : Counts) → Bounds limit c → not (is_done stage) ≡ true → rank (next_stage stage) * (limit + 3) + 3 + limit - (limit + 3) < rank stage * (limit + 3) + c.misses + c.naks - (limit + 3)
   unfolding rank
-  on_won Setup c h g = omega (arith, h.some_misses)
-  on_won Handshake c h g = omega (arith, h.some_misses)
-  on_won Done c h g = absurd (false≢true g)
+  on_won stage c h g = grind (arith, common_steps)
 
   on_again : (stage : Stage) (c c' : Counts) → Bounds limit c → c'.misses + c'.naks + 1 ≡ c.misses + c.naks → Bounds limit c' → not (is_done stage) ≡ true → rank stage * (limit + 3) + c'.misses + c'.naks - (limit + 3) < rank stage * (limit + 3) + c.misses + c.naks - (limit + 3)
   unfolding rank
-  on_again Setup c c' h n k g = omega (arith, k.some_misses)
-  on_again Handshake c c' h n k g = omega (arith, k.some_misses)
-  on_again Done c c' h n k g = absurd (false≢true g)
+  on_again stage c c' h g k l = grind (arith, common_steps)
 
   -- the measure after a try, where the request goes on
   falls_at : (stage : Stage) (code : ℕ) (c : Counts) → Bounds limit c → not (is_done stage) ≡ true → none_yet (stop_of (verdict code c)) ≡ true → rank (cond (succeeded (verdict code c)) (next_stage stage) stage) * (limit + 3) + (cond (succeeded (verdict code c)) (fresh_counts limit) (counted code c)).misses + (cond (succeeded (verdict code c)) (fresh_counts limit) (counted code c)).naks - (limit + 3) < rank stage * (limit + 3) + c.misses + c.naks - (limit + 3)
@@ -226,14 +171,14 @@ module _ (a e : ℕ) (way : Direction) (limit : ℕ) (low : 1 ≤ e) (high : e �
   falls : (s : Requesting) → Asked s → clear_going a e way limit s ≡ true → clear_going a e way limit (clear_step a e way limit s) ≡ true → left (clear_step a e way limit s) < left s
   unfolding left
   falls s h g g' =
-      falls_at s.clearing.stage (stage_answer a (stage_value s.clearing.stage) (stage_bytes s.clearing.stage (clear_request e way)) s.bus).0 s.clearing.counts h.bounds
-      (and_parts (none_yet s.clearing.stop) (not (is_done s.clearing.stage)) g).1
-      (and_parts (none_yet (clear_step a e way limit s).clearing.stop) (not (is_done (clear_step a e way limit s).clearing.stage)) g').0
+      falls_at s.clearing.stage (stage_answer a (stage_value s.clearing.stage) (stage_bytes s.clearing.stage (clear_request e way)) s.bus).0 s.clearing.tally.counts h.bounds
+      (and_parts (none_yet s.clearing.tally.stop) (not (is_done s.clearing.stage)) g).1
+      (and_parts (none_yet (clear_step a e way limit s).clearing.tally.stop) (not (is_done (clear_step a e way limit s).clearing.stage)) g').0
 
   module _ (b : Bus) (no_setup : b.chip.setup ≡ []) (no_sending : b.chip.sending ≡ []) where
     begin : Asked (requesting (clear_start limit) b)
     unfolding Known
-    begin = record { no_setup = no_setup; no_sending = no_sending; bounds = fresh_bounds; known = tt }
+    begin = grind (arith, common_steps)
 
     pub run_asked : Asked (clear_run a e way limit b)
     run_asked = run_keeps (clear_going a e way limit) (clear_step a e way limit) Asked step_asked (clear_budget a e way limit) (requesting (clear_start limit) b) begin
@@ -246,15 +191,13 @@ module _ (a e : ℕ) (way : Direction) (limit : ℕ) (low : 1 ≤ e) (high : e �
 
     done_known : (stage : Stage) (d : Devices) → Known stage d → not (is_done stage) ≡ false → There d
     unfolding Known
-    done_known Setup d k f = absurd (false≢true (sym f))
-    done_known Handshake d k f = absurd (false≢true (sym f))
-    done_known Done d k f = k
+    done_known stage d h g = grind (arith, common_steps)
 
     -- a request that was not stopped has cleared the endpoint
-    pub run_there : none_yet (clear_run a e way limit b).clearing.stop ≡ true → There (clear_run a e way limit b).bus.devices
+    pub run_there : none_yet (clear_run a e way limit b).clearing.tally.stop ≡ true → There (clear_run a e way limit b).bus.devices
     run_there none =
         let q = (clear_run a e way limit b).clearing in
         ⊎_elim
         (λ f. absurd (false≢true (sym f ∙ none)))
         (λ f. done_known q.stage (clear_run a e way limit b).bus.devices run_asked.known f)
-        (and_cases (none_yet q.stop) (not (is_done q.stage)) run_over)
+        (and_cases (none_yet q.tally.stop) (not (is_done q.stage)) run_over)

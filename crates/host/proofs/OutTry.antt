@@ -1,12 +1,13 @@
 -- One OUT try on any bus: what it answers and what it does to the devices. Assumes nothing.
-use Rattle.std.proofs.Common.{◌≡◌, ℕ, ◌+◌, ◌-◌, ◌*◌, ◌%◌, ◌<◌, ◌≤◌, false, cond, List, [], ◌∷◌, ◌++◌, length, replicate, Some, sym, refl, ap, ◌∙◌, subst, append_assoc, append-nil, arith}
-use Rattle.std.proofs.lemmas.List.{length_push, take_all}
+use Rattle.std.proofs.Common.{◌≡◌, ℕ, ◌+◌, ◌*◌, ◌%◌, ◌<◌, ◌≤◌, false, cond, List, [], ◌∷◌, ◌++◌, length, Some, sym, refl, ap, ◌∙◌, subst, append_assoc, append-nil, arith}
+use Rattle.std.proofs.lemmas.Grind.{common_steps}
+use Rattle.std.proofs.lemmas.List.{length_push}
 use Rattle.std.proofs.lemmas.Bool.{lt-ltb, le-leb}
 use Rattle.port.specs.declared.toggles.Toggle.{Toggle}
 use Rattle.port.specs.declared.toggles.Toggle.TheVariants.{Data0, Data1}
 use Rattle.port.specs.declared.transactions.Transaction.TheVariants.{Out}
 use Rattle.port.specs.Toggles.{bit, toggle_of}
-use Rattle.port.specs.Chip.{Chip, packet}
+use Rattle.port.specs.Chip.{Chip}
 use Rattle.port.specs.Reactions.{Outcome, out_outcome}
 use Rattle.port.specs.Bus.{Bus, with_chip, next_fate}
 use Rattle.port.specs.Launches.{advanced, launch_of, carried}
@@ -98,26 +99,12 @@ loaded_out a t bytes b none h =
     ∙ put_7 (length bytes) full
     ∙ ap (λ x. with_chip b (cond x (ready b.chip a t bytes) (with_bytes (aimed b.chip a t) bytes))) (le-leb (length bytes) 64 h)
 
--- the packet that goes out is the one that was loaded
-ready_packet : (c : Chip) (a : ℕ) (t : Toggle) (bytes : List ℕ) → packet (ready c a t bytes) ≡ bytes
-ready_packet c a t bytes =
-    let z : length bytes - length bytes ≡ 0 = omega arith in
-    ap (λ l. l ++ replicate (length bytes - length bytes) 0) (take_all (length bytes) bytes (omega arith))
-    ∙ ap (λ n. bytes ++ replicate n 0) z
-    ∙ append-nil bytes
-
 -- R31 read back
 pub status_code : (s r : Toggle) (x : ℕ) → x < 16 → code_of (32 * bit s + 16 * bit r + x) ≡ x
-status_code Data0 Data0 x h = omega arith
-status_code Data0 Data1 x h = omega arith
-status_code Data1 Data0 x h = omega arith
-status_code Data1 Data1 x h = omega arith
+status_code s r x h = grind (arith, common_steps)
 
 status_toggle : (s r : Toggle) (x : ℕ) → x < 16 → toggle_of (send_bit (32 * bit s + 16 * bit r + x)) ≡ s
-status_toggle Data0 Data0 x h = ap toggle_of (let z : send_bit (32 * 0 + 16 * 0 + x) ≡ 0 = omega arith in z)
-status_toggle Data0 Data1 x h = ap toggle_of (let z : send_bit (32 * 0 + 16 * 1 + x) ≡ 0 = omega arith in z)
-status_toggle Data1 Data0 x h = ap toggle_of (let z : send_bit (32 * 1 + 16 * 0 + x) ≡ 1 = omega arith in z)
-status_toggle Data1 Data1 x h = ap toggle_of (let z : send_bit (32 * 1 + 16 * 1 + x) ≡ 1 = omega arith in z)
+status_toggle s r x h = grind (arith, common_steps)
 
 module _ (a e : ℕ) (t : Toggle) (bytes : List ℕ) (b : Bus) (low : 1 ≤ e) (high : e ≤ 15) (none : b.chip.sending ≡ []) (short : length bytes ≤ 64) where
   -- what comes of the transaction
@@ -138,15 +125,15 @@ module _ (a e : ℕ) (t : Toggle) (bytes : List ℕ) (b : Bus) (low : 1 ≤ e) (
   -- the six things that are known of the bus after the launch
   carried_result : (carried (Out e) (with_chip b (ready b.chip a t bytes))).chip.result ≡ outcome_out.code
   unfolding carried
-  carried_result = ap (λ l. (out_outcome (a % 128) (next_fate b.fates) b.devices e t l).code) (ready_packet b.chip a t bytes)
+  carried_result = grind (arith, common_steps)
 
   carried_toggle : (carried (Out e) (with_chip b (ready b.chip a t bytes))).chip.send_toggle ≡ advanced outcome_out.code t
   unfolding carried
-  carried_toggle = ap (λ l. advanced (out_outcome (a % 128) (next_fate b.fates) b.devices e t l).code t) (ready_packet b.chip a t bytes)
+  carried_toggle = grind (arith, common_steps)
 
   carried_devices : (carried (Out e) (with_chip b (ready b.chip a t bytes))).devices ≡ outcome_out.devices
   unfolding carried
-  carried_devices = ap (λ l. (out_outcome (a % 128) (next_fate b.fates) b.devices e t l).devices) (ready_packet b.chip a t bytes)
+  carried_devices = grind (arith, common_steps)
 
   carried_empty : (carried (Out e) (with_chip b (ready b.chip a t bytes))).chip.sending ≡ []
   unfolding carried

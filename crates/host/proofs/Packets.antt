@@ -1,5 +1,6 @@
 -- A buffer read as packets: one more packet behind those that came is one more packet in the list. Assumes nothing.
-use Rattle.std.proofs.Common.{◌≡◌, ℕ, zero, suc, ◌+◌, ◌-◌, ◌*◌, ◌/◌, ◌<◌, ◌≤◌, Bool, true, false, cond, ltb, List, [], ◌∷◌, ◌++◌, length, take, drop, sym, refl, ap, ◌∙◌, subst, ⊎_elim, append-nil, suc-mul, arith}
+use Rattle.std.proofs.Common.{◌≡◌, ℕ, zero, suc, ◌+◌, ◌-◌, ◌*◌, ◌/◌, ◌<◌, ◌≤◌, Bool, true, false, cond, ltb, List, [], ◌∷◌, ◌++◌, length, take, drop, sym, refl, ap, ◌∙◌, subst, ⊎_elim, suc-mul, arith}
+use Rattle.std.proofs.lemmas.Grind.{common_steps}
 use Rattle.std.proofs.lemmas.Nat.{div-mul-add}
 use Rattle.std.proofs.lemmas.List.{take-take, take_at, drop-drop, drop-take}
 use Rattle.std.proofs.lemmas.Bool.{lt-ltb, le-ltb, cases_lt}
@@ -43,8 +44,7 @@ came_of size k r ended buffer h =
 
 -- of full packets only
 came_full : (size k : ℕ) (buffer : List ℕ) → 1 ≤ size → came_in size (k * size) false buffer ≡ cut_packets k size buffer
-came_full size k buffer h =
-    ap (λ n. came_in size n false buffer) (let z : k * size ≡ k * size + 0 = omega arith in z) ∙ came_of size k 0 false buffer h ∙ append-nil (cut_packets k size buffer)
+came_full size k buffer h = grind (arith, common_steps)
 
 module _ (size k : ℕ) (some : 1 ≤ size) (packet behind buffer buffer' : List ℕ) (most : length packet ≤ size) (front : take (k * size) buffer' ≡ take (k * size) buffer) (back : drop (k * size) buffer' ≡ packet ++ behind) where
   short_more : length packet < size → came_in size (k * size + length packet) true buffer' ≡ came_in size (k * size) false buffer ++ (packet ∷ [])

@@ -47,22 +47,22 @@ in_launches {n} {b} {b'} a e t room r =
     (λ _. put 25 0x84 (λ e. omega arith) read)
     (λ _. put 25 0x80 (λ e. omega arith) launched)
 
-fetch_reached : (a e size limit : ℕ) (t : Toggle) (buffer : List ℕ) (b : Bus) → Reached (fetch_run a e size limit t buffer b).intake.tries b (fetch_run a e size limit t buffer b).bus
+fetch_reached : (a e size limit : ℕ) (t : Toggle) (buffer : List ℕ) (b : Bus) → Reached (fetch_run a e size limit t buffer b).intake.tally.tries b (fetch_run a e size limit t buffer b).bus
 fetch_reached a e size limit t buffer b =
-    run_keeps (fetch_going a e size limit) (fetch_step a e size limit) (λ s. Reached s.intake.tries b s.bus)
-    (λ s r g. subst (λ n. Reached n b (fetch_step a e size limit s).bus) (sym (add-one s.intake.tries)) (in_launches a e s.intake.toggle (next_room a e size limit s.intake s.buffer) r))
+    run_keeps (fetch_going a e size limit) (fetch_step a e size limit) (λ s. Reached s.intake.tally.tries b s.bus)
+    (λ s r g. subst (λ n. Reached n b (fetch_step a e size limit s).bus) (sym (add-one s.intake.tally.tries)) (in_launches a e s.intake.toggle (next_room a e size limit s.intake s.buffer) r))
     (fetch_budget a e size limit (length buffer)) (fetching (fetch_start limit t) buffer b) here
 
-send_reached : (p : Pipe) (message : List ℕ) (b : Bus) → Reached (send_run p message b).progress.tries b (send_run p message b).bus
+send_reached : (p : Pipe) (message : List ℕ) (b : Bus) → Reached (send_run p message b).progress.tally.tries b (send_run p message b).bus
 send_reached p message b =
-    run_keeps (send_going p message) (send_step p message) (λ s. Reached s.progress.tries b s.bus)
-    (λ s r g. subst (λ n. Reached n b (send_step p message s).bus) (sym (add-one s.progress.tries)) (out_launches p.address p.endpoint s.progress.toggle (send_packet p message s.progress) r))
+    run_keeps (send_going p message) (send_step p message) (λ s. Reached s.progress.tally.tries b s.bus)
+    (λ s r g. subst (λ n. Reached n b (send_step p message s).bus) (sym (add-one s.progress.tally.tries)) (out_launches p.address p.endpoint s.progress.toggle (send_packet p message s.progress) r))
     (send_budget p message) (sending (send_start p) b) here
 
-clear_reached : (a e : ℕ) (d : Direction) (limit : ℕ) (b : Bus) → Reached (clear_run a e d limit b).clearing.tries b (clear_run a e d limit b).bus
+clear_reached : (a e : ℕ) (d : Direction) (limit : ℕ) (b : Bus) → Reached (clear_run a e d limit b).clearing.tally.tries b (clear_run a e d limit b).bus
 clear_reached a e d limit b =
-    run_keeps (clear_going a e d limit) (clear_step a e d limit) (λ s. Reached s.clearing.tries b s.bus)
-    (λ s r g. subst (λ n. Reached n b (clear_step a e d limit s).bus) (sym (add-one s.clearing.tries)) (stage_launches a (stage_value s.clearing.stage) (stage_bytes s.clearing.stage (clear_request e d)) r))
+    run_keeps (clear_going a e d limit) (clear_step a e d limit) (λ s. Reached s.clearing.tally.tries b s.bus)
+    (λ s r g. subst (λ n. Reached n b (clear_step a e d limit s).bus) (sym (add-one s.clearing.tally.tries)) (stage_launches a (stage_value s.clearing.stage) (stage_bytes s.clearing.stage (clear_request e d)) r))
     (clear_budget a e d limit) (requesting (clear_start limit) b) here
 
 send_by_reached : (places : Places) (b : Bus) (number : ℕ) (message : List ℕ) (r : Result Pipe Refusal) → Reached (send_by places b number message r).answer.tries b (send_by places b number message r).bus

@@ -1,5 +1,6 @@
 -- A clear request resets at most the endpoint that it names: what one SETUP or HS-IN keeps of the devices. Assumes nothing.
-use Rattle.std.proofs.Common.{◌≡◌, ℕ, ◌%◌, ◌≤◌, List, get_or, set, sym, refl, ◌∙◌, subst}
+use Rattle.std.proofs.Common.{arith, ◌≡◌, ℕ, ◌%◌, ◌≤◌, List, get_or, set, sym, ◌∙◌, subst}
+use Rattle.std.proofs.lemmas.Grind.{common_steps}
 use Rattle.std.proofs.lemmas.Bool.{cond_both}
 use Rattle.port.specs.declared.directions.Direction.{Direction}
 use Rattle.port.specs.declared.fates.Fate.{Fate}
@@ -8,7 +9,7 @@ use Rattle.port.specs.Endpoints.{Endpoint, nowhere, cleared, place, lives}
 use Rattle.port.specs.Devices.{Devices, clear_place, after_setup}
 use Rattle.port.specs.Reactions.{outcome, at_address, setup_met, setup_outcome, hs_outcome}
 use Rattle.host.specs.Opening.{clear_request}
-use Rattle.host.proofs.Only.{Only, only_none, only_set, each_set}
+use Rattle.host.proofs.Only.{Only}
 use Rattle.host.proofs.Opened.{hs_kept}
 use Rattle.host.proofs.Places.{place_same}
 use Rattle.host.proofs.Targets.{finds}
@@ -20,16 +21,10 @@ pub record Reset (i : ℕ) (es es' : List Endpoint) : Type 0 where
   pub same_waiting : (k : ℕ) → (get_or es' k nowhere).waiting ≡ (get_or es k nowhere).waiting
 
 pub reset_none : (i : ℕ) (es : List Endpoint) → Reset i es es
-reset_none i es = record { only = only_none i es; same_taken = λ k. refl; same_waiting = λ k. refl }
+reset_none i es = grind (arith, common_steps)
 
 reset_more : (i : ℕ) (es es' : List Endpoint) → Reset i es es' → Reset i es (set es' i (cleared (get_or es' i nowhere)))
-reset_more i es es' h =
-    let e' = cleared (get_or es' i nowhere) in
-    record {
-      only = only_set i es es' e' h.only (record { same_address = refl; same_number = refl; same_direction = refl });
-      same_taken = λ k. each_set (λ x y. y.taken ≡ x.taken) (λ x. refl) es' i e' refl k ∙ h.same_taken k;
-      same_waiting = λ k. each_set (λ x y. y.waiting ≡ x.waiting) (λ x. refl) es' i e' refl k ∙ h.same_waiting k;
-    }
+reset_more i es es' h = grind (arith, common_steps)
 
 -- from the endpoints before the request
 module _ (a e : ℕ) (way : Direction) (low : 1 ≤ e) (high : e ≤ 15) (es₀ : List Endpoint) where

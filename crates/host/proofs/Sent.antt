@@ -1,18 +1,16 @@
 -- What the answer of a send says of the message. Assumes nothing.
-use Rattle.std.proofs.Common.{◌≡◌, ℕ, ◌+◌, ◌≤◌, min, true, cond, ltb, List, length, drop, Some, None, Ok, Err, Option, Result, sym, refl, ap, ◌∙◌, ⊎_elim, arith}
-use Rattle.std.proofs.lemmas.List.{length-take, length-drop}
-use Rattle.std.proofs.lemmas.Bool.{cond_both, ltb-false, and_cases, false≢true}
+use Rattle.std.proofs.Common.{◌≡◌, ℕ, ◌+◌, ◌≤◌, true, ltb, List, length, Ok, Err, Option, Result, sym, ap, ◌∙◌, ⊎_elim, arith}
+use Rattle.std.proofs.lemmas.Grind.{common_steps}
+use Rattle.std.proofs.lemmas.Bool.{ltb-false, and_cases, false≢true}
 use Rattle.port.specs.Bus.{Bus}
 use Rattle.pipes.specs.declared.pipes.Pipe.{Pipe}
 use Rattle.pipes.specs.declared.refusals.Refusal.{Refusal}
-use Rattle.pipes.specs.declared.refusals.Refusal.TheVariants.{NoSuchPipe, PipeThere, PipeAbsent, BadAddress, BadEndpoint, BadSize, NoLimit, EndpointTaken, WrongDirection, BadLength, PipeDoubtful, PipeHalted, PipeInStep, NakLimit, ThirdMiss, Stalled, PacketTooLong}
 use Rattle.host.specs.declared.sending.Progress.{Progress}
-use Rattle.pipes.specs.Refusals.{refusal_number}
 use Rattle.pipes.specs.Answers.{number_of, answer_number}
 use Rattle.pipes.specs.Tables.{Places}
 use Rattle.pipes.specs.Checks.{admit_send}
 use Rattle.host.specs.Calls.{send_by}
-use Rattle.host.specs.Sending.{sending, none_yet, send_start, send_packet, send_step, send_going, send_budget, send_run, doubt}
+use Rattle.host.specs.Sending.{sending, none_yet, send_start, send_step, send_going, send_budget, send_run, doubt}
 use Rattle.host.specs.Laws.{Made, AnswersStayWithinTheMessage, SuccessSendsAll}
 use Rattle.host.proofs.Budgets.{run_over, run_kept}
 use Rattle.host.proofs.Runs.{run_keeps}
@@ -20,12 +18,7 @@ use Rattle.host.proofs.Steps.{step_sent}
 
 -- the doubtful packet is a part of what is left
 pub doubt_within : (p : Pipe) (message : List ℕ) (q : Progress) → q.sent ≤ length message → q.sent + doubt p message q ≤ length message
-doubt_within p message q h =
-    let l = length-take (min p.size 64) (drop q.sent message) in
-    let d = length-drop q.sent message in
-    cond_both (none_yet q.stop) 0 (cond q.counts.missed (length (send_packet p message q)) 0) (λ n. q.sent + n ≤ length message)
-    (λ _. omega arith)
-    (λ _. cond_both q.counts.missed (length (send_packet p message q)) 0 (λ n. q.sent + n ≤ length message) (λ _. omega arith) (λ _. omega arith))
+doubt_within p message q h = grind (arith, common_steps)
 
 run_within : (p : Pipe) (message : List ℕ) (b : Bus) → (send_run p message b).progress.sent ≤ length message
 run_within p message b =
@@ -38,32 +31,11 @@ within_by places b number message (Err why) = omega arith
 pub answers_stay_within : AnswersStayWithinTheMessage
 answers_stay_within places b number message = within_by places b number message (admit_send places number (length message))
 
--- no refusal has the number 0
-not_zero : (why : Refusal) → refusal_number why ≡ 0 → ⊥
-not_zero NoSuchPipe e = omega arith
-not_zero PipeThere e = omega arith
-not_zero PipeAbsent e = omega arith
-not_zero BadAddress e = omega arith
-not_zero BadEndpoint e = omega arith
-not_zero BadSize e = omega arith
-not_zero NoLimit e = omega arith
-not_zero EndpointTaken e = omega arith
-not_zero WrongDirection e = omega arith
-not_zero BadLength e = omega arith
-not_zero PipeDoubtful e = omega arith
-not_zero PipeHalted e = omega arith
-not_zero PipeInStep e = omega arith
-not_zero NakLimit e = omega arith
-not_zero ThirdMiss e = omega arith
-not_zero Stalled e = omega arith
-not_zero PacketTooLong e = omega arith
-
 pub succeeded : (o : Option Refusal) → number_of o ≡ 0 → none_yet o ≡ true
-succeeded None e = refl
-succeeded (Some why) e = absurd (not_zero why e)
+succeeded o h = grind (arith, common_steps)
 
 -- a run that was not stopped has sent everything
-pub all_sent : (p : Pipe) (message : List ℕ) (b : Bus) → Made p → none_yet (send_run p message b).progress.stop ≡ true → (send_run p message b).progress.sent ≡ length message
+pub all_sent : (p : Pipe) (message : List ℕ) (b : Bus) → Made p → none_yet (send_run p message b).progress.tally.stop ≡ true → (send_run p message b).progress.sent ≡ length message
 all_sent p message b made none =
     let q = (send_run p message b).progress in
     let over = run_over p message made.size_above made.limit_above b in
@@ -71,9 +43,9 @@ all_sent p message b made none =
     ⊎_elim
     (λ f. absurd (false≢true (sym f ∙ none)))
     (λ f. let le = ltb-false q.sent (length message) f in omega (arith, kept.within))
-    (and_cases (none_yet q.stop) (ltb q.sent (length message)) over)
+    (and_cases (none_yet q.tally.stop) (ltb q.sent (length message)) over)
 
 pub success_sends_all : SuccessSendsAll
 success_sends_all places b number message p h made zero =
     let e = ap (send_by places b number message) h in
-    ap (λ d. d.answer.sent) e ∙ all_sent p message b made (succeeded (send_run p message b).progress.stop (sym (ap (λ d. answer_number d.answer) e) ∙ zero))
+    ap (λ d. d.answer.sent) e ∙ all_sent p message b made (succeeded (send_run p message b).progress.tally.stop (sym (ap (λ d. answer_number d.answer) e) ∙ zero))

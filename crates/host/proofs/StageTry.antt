@@ -1,10 +1,11 @@
 -- One try of a stage, SETUP or HS-IN, on any bus: what it answers and what it does to the devices. Assumes nothing.
-use Rattle.std.proofs.Common.{◌≡◌, ℕ, ◌+◌, ◌-◌, ◌%◌, ◌<◌, ◌≤◌, cond, List, [], ◌∷◌, ◌++◌, length, replicate, None, sym, refl, ap, ◌∙◌, subst, append_assoc, append-nil, arith}
-use Rattle.std.proofs.lemmas.List.{length_push, take_all}
+use Rattle.std.proofs.Common.{◌≡◌, ℕ, ◌+◌, ◌%◌, ◌<◌, ◌≤◌, cond, List, [], ◌∷◌, ◌++◌, length, None, sym, refl, ap, ◌∙◌, subst, append_assoc, append-nil, arith}
+use Rattle.std.proofs.lemmas.Grind.{common_steps}
+use Rattle.std.proofs.lemmas.List.{length_push}
 use Rattle.std.proofs.lemmas.Bool.{lt-ltb}
 use Rattle.port.specs.declared.transactions.Transaction.{Transaction}
 use Rattle.port.specs.declared.transactions.Transaction.TheVariants.{Setup, HsIn}
-use Rattle.port.specs.Chip.{Chip, request}
+use Rattle.port.specs.Chip.{Chip}
 use Rattle.port.specs.Reactions.{Outcome, setup_outcome, hs_outcome}
 use Rattle.port.specs.Bus.{Bus, with_chip, next_fate}
 use Rattle.port.specs.Launches.{carried}
@@ -72,11 +73,6 @@ module _ (a : ℕ) (bytes : List ℕ) (b : Bus) (none : b.chip.setup ≡ []) whe
       ∙ loads bytes (with_chip b (aimed b.chip a)) (omega arith)
       ∙ ap (λ l. with_chip b (with_request (aimed b.chip a) (l ++ bytes))) none
 
-ready_request : (b : Bus) (a : ℕ) (bytes : List ℕ) → length bytes ≡ 8 → request (ready b a bytes).chip ≡ bytes
-ready_request b a bytes h =
-    let z : 8 - length bytes ≡ 0 = omega arith in
-    ap (λ l. l ++ replicate (8 - length bytes) 0) (take_all 8 bytes (omega arith)) ∙ ap (λ n. bytes ++ replicate n 0) z ∙ append-nil bytes
-
 -- a stage whose launch carries this transaction, with what comes of it
 module _ (a value : ℕ) (bytes : List ℕ) (b : Bus) (t : Transaction) (o : Outcome) (is : stage_launched a value bytes b ≡ carried t (ready b a bytes)) (code : (carried t (ready b a bytes)).chip.result ≡ o.code) (devices : (carried t (ready b a bytes)).devices ≡ o.devices) (empty : (carried t (ready b a bytes)).chip.setup ≡ []) (unsent : (carried t (ready b a bytes)).chip.sending ≡ []) (received : (carried t (ready b a bytes)).chip.received ≡ b.chip.received) (small : o.code < 16) where
   answers : (stage_answer a value bytes b).0 ≡ o.code
@@ -104,11 +100,11 @@ pub record Staged (a value : ℕ) (bytes : List ℕ) (b : Bus) (o : Outcome) : T
 module _ (a : ℕ) (bytes : List ℕ) (b : Bus) (none : b.chip.setup ≡ []) where
   setup_code : length bytes ≡ 8 → (carried Setup (ready b a bytes)).chip.result ≡ (setup_outcome (a % 128) (next_fate b.fates) b.devices bytes).code
   unfolding carried
-  setup_code h = ap (λ l. (setup_outcome (a % 128) (next_fate b.fates) b.devices l).code) (ready_request b a bytes h)
+  setup_code h = grind (arith, common_steps)
 
   setup_devices : length bytes ≡ 8 → (carried Setup (ready b a bytes)).devices ≡ (setup_outcome (a % 128) (next_fate b.fates) b.devices bytes).devices
   unfolding carried
-  setup_devices h = ap (λ l. (setup_outcome (a % 128) (next_fate b.fates) b.devices l).devices) (ready_request b a bytes h)
+  setup_devices h = grind (arith, common_steps)
 
   setup_chip : ((carried Setup (ready b a bytes)).chip.setup ≡ []) × ((carried Setup (ready b a bytes)).chip.sending ≡ []) × ((carried Setup (ready b a bytes)).chip.received ≡ b.chip.received)
   unfolding carried

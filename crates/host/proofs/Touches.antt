@@ -1,39 +1,25 @@
 -- A send touches the endpoint that it is made to and no other, whatever the bus does. Assumes nothing.
-use Rattle.std.proofs.Common.{◌≡◌, ℕ, ◌+◌, ◌%◌, ◌≤◌, min, not, ltb, List, length, get_or, drop, set, sym, refl, ◌∙◌, subst, arith}
+use Rattle.std.proofs.Common.{◌≡◌, ℕ, ◌%◌, ◌≤◌, min, ltb, List, length, get_or, drop, set, sym, ◌∙◌, subst, arith}
+use Rattle.std.proofs.lemmas.Grind.{common_steps}
 use Rattle.std.proofs.lemmas.List.{length-take}
 use Rattle.std.proofs.lemmas.Bool.{cond_both}
 use Rattle.port.specs.declared.directions.Direction.TheVariants as directions
 use Rattle.port.specs.declared.fates.Fate.{Fate}
-use Rattle.port.specs.declared.fates.Fate.TheVariants.{Arrives, Lost, Unheard, Nak, Stall}
 use Rattle.port.specs.declared.toggles.Toggle.{Toggle}
-use Rattle.port.specs.Toggles.{agree}
-use Rattle.port.specs.Endpoints.{Endpoint, nowhere, took, place}
+use Rattle.port.specs.Endpoints.{Endpoint, nowhere, place}
 use Rattle.port.specs.Devices.{Devices}
-use Rattle.port.specs.Reactions.{Met, met, out_reaches, out_met, out_at, at_place, outcome, out_outcome}
+use Rattle.port.specs.Reactions.{out_met, out_at, at_place, outcome, out_outcome}
 use Rattle.port.specs.Bus.{Bus, next_fate}
 use Rattle.attempt.specs.Tries.{after_out}
 use Rattle.host.specs.Sending.{sending, send_start, send_packet, send_step, send_going, send_budget, send_run}
 use Rattle.host.specs.Effects.{Quiet, SameName, SendsTouchOneEndpoint}
-use Rattle.host.proofs.Only.{same_name, Only, only_none, only_set}
+use Rattle.host.proofs.Only.{Only, only_none, only_set}
 use Rattle.host.proofs.OutTry.{out_devices, out_empty, out_setup, out_received}
 use Rattle.host.proofs.Places.{place_same}
 use Rattle.host.proofs.Runs.{run_keeps}
 
--- an endpoint that an OUT meets keeps its name
-reached_named : (toggle : Toggle) (bytes : List ℕ) (e : Endpoint) → SameName e (out_reaches toggle bytes e).endpoint
-reached_named toggle bytes e =
-    let P : Met → Type 0 = λ m. SameName e m.endpoint in
-    cond_both e.halted (met 5 e) _ P (λ _. same_name e) λ _.
-    cond_both (not (agree toggle e.toggle)) (met 0 e) _ P (λ _. same_name e) λ _.
-    cond_both (ltb e.capacity (length e.taken + length bytes)) (met 4 e) (met 0 (took bytes e)) P (λ _. same_name e) λ _.
-    record { same_address = refl; same_number = refl; same_direction = refl }
-
 pub met_named : (fate : Fate) (toggle : Toggle) (bytes : List ℕ) (e : Endpoint) → SameName e (out_met fate toggle bytes e).endpoint
-met_named Arrives toggle bytes e = reached_named toggle bytes e
-met_named (Lost code) toggle bytes e = same_name e
-met_named (Unheard code) toggle bytes e = reached_named toggle bytes e
-met_named Nak toggle bytes e = same_name e
-met_named Stall toggle bytes e = record { same_address = refl; same_number = refl; same_direction = refl }
+met_named fate toggle bytes e = grind (arith, common_steps)
 
 -- from the endpoints before the send
 module _ (a e : ℕ) (low : 1 ≤ e) (high : e ≤ 15) (es₀ : List Endpoint) where

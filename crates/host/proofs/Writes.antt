@@ -1,6 +1,7 @@
 -- What a try leaves of the buffer: the bytes that came stand behind what was received, and all else is as it was. Assumes nothing.
-use Rattle.std.proofs.Common.{◌≡◌, ℕ, ◌+◌, ◌≤◌, List, [], ◌++◌, length, take, drop, sym, refl, ap, ◌∙◌, append_assoc, arith}
-use Rattle.std.proofs.lemmas.List.{length-take, length-drop, length-append, take-append-drop, take_at, drop_at, drop-append-le, drop-drop}
+use Rattle.std.proofs.Common.{◌≡◌, ℕ, ◌+◌, ◌≤◌, List, ◌++◌, length, take, drop, sym, refl, ap, ◌∙◌, append_assoc, arith}
+use Rattle.std.proofs.lemmas.Grind.{common_steps}
+use Rattle.std.proofs.lemmas.List.{length-take, length-drop, length-append, take-append-drop, drop_at, drop-append-le, drop-drop}
 use Rattle.host.specs.Fetching.{written}
 
 -- where the room for a packet begins at i, and the bytes fit it
@@ -22,20 +23,10 @@ module _ (i size : ℕ) (bytes buffer : List ℕ) (here : i ≤ length buffer) (
       ∙ ap (λ l. take i buffer ++ l) (append_assoc bytes (drop n room) (drop size back) ∙ ap (λ l. bytes ++ l) whole)
 
   pub written_length : length (written i (bytes ++ drop n room) buffer) ≡ length buffer
-  written_length =
-      let e = ap length written_is in
-      let a = length-append (take i buffer) (bytes ++ drop (i + n) buffer) in
-      let b = length-append bytes (drop (i + n) buffer) in
-      let c = length-take i buffer in
-      let d = length-drop (i + n) buffer in
-      let f = length-take size (drop i buffer) in
-      let g = length-drop i buffer in
-      omega arith
+  written_length = grind (arith, common_steps)
 
   pub written_front : take i (written i (bytes ++ drop n room) buffer) ≡ take i buffer
-  written_front =
-      let c = length-take i buffer in
-      ap (take i) written_is ∙ take_at (take i buffer) (bytes ++ drop (i + n) buffer) i (omega arith)
+  written_front = grind (arith, common_steps)
 
   pub written_bytes : drop i (written i (bytes ++ drop n room) buffer) ≡ bytes ++ drop (i + n) buffer
   written_bytes =
@@ -45,10 +36,3 @@ module _ (i size : ℕ) (bytes buffer : List ℕ) (here : i ≤ length buffer) (
   pub written_behind : drop (i + n) (written i (bytes ++ drop n room) buffer) ≡ drop (i + n) buffer
   written_behind =
       sym (drop-drop n i (written i (bytes ++ drop n room) buffer)) ∙ ap (drop n) written_bytes ∙ drop_at bytes (drop (i + n) buffer) n refl
-
--- the room as it was, written back, changes nothing
-pub written_back : (i size : ℕ) (buffer : List ℕ) → i ≤ length buffer → written i (take size (drop i buffer)) buffer ≡ buffer
-written_back i size buffer here =
-    written_is i size [] buffer here (omega arith)
-    ∙ ap (λ k. take i buffer ++ drop k buffer) (let z : i + 0 ≡ i = omega arith in z)
-    ∙ take-append-drop i buffer

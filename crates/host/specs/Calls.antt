@@ -8,12 +8,11 @@ use Rattle.pipes.specs.declared.answers.Looked.{Looked}
 use Rattle.host.specs.declared.fetching.Intake.{Intake}
 use Rattle.pipes.specs.declared.pipes.Event.TheVariants.{Succeeded, RecoverFailed}
 use Rattle.pipes.specs.declared.pipes.Pipe.{Pipe}
-use Rattle.pipes.specs.declared.pipes.Standing.TheVariants.{InStep}
 use Rattle.pipes.specs.declared.refusals.Refusal.{Refusal}
 use Rattle.host.specs.declared.sending.Progress.{Progress}
-use Rattle.pipes.specs.Answers.{answer_number, answered, declined, looked_refused, looked_at}
+use Rattle.pipes.specs.Answers.{answer_number, answered, declined, looked_at}
 use Rattle.pipes.specs.Standings.{next_standing}
-use Rattle.pipes.specs.Tables.{Places, with_state}
+use Rattle.pipes.specs.Tables.{Places, with_state, new_pipe}
 use Rattle.pipes.specs.Checks.{open_refusal, present, admit_send, admit_fetch, admit_recover}
 use Rattle.host.specs.Opening.{Requesting, clear_run, clear_answer}
 use Rattle.host.specs.Sending.{Sending, send_run, send_answer, send_event}
@@ -38,19 +37,6 @@ pub record Brought : Type 0 where
 abbrev pub brought : Answer → List ℕ → Places → Bus → Brought
 brought answer buffer places bus = record { answer = answer; buffer = buffer; places = places; bus = bus }
 
--- a new pipe: in step, with DATA0
-abbrev pub new_pipe : ℕ → ℕ → Direction → ℕ → ℕ → Pipe
-new_pipe address endpoint direction size limit =
-    record {
-      address = address;
-      endpoint = endpoint;
-      direction = direction;
-      size = size;
-      limit = limit;
-      toggle = Data0;
-      standing = InStep;
-    }
-
 module _ (places : Places) (b : Bus) (number : ℕ) where
   -- open: success puts the pipe into its place; a failure leaves it absent
   abbrev pub opened : Pipe → Option Refusal → Places
@@ -58,7 +44,7 @@ module _ (places : Places) (b : Bus) (number : ℕ) where
   opened p (Some refusal) = places
 
   abbrev pub open_end : Pipe → Requesting → Done
-  open_end p s = done (clear_answer s.clearing) (opened p s.clearing.stop) s.bus
+  open_end p s = done (clear_answer s.clearing) (opened p s.clearing.tally.stop) s.bus
 
   abbrev pub open_by : ℕ → ℕ → Direction → ℕ → ℕ → Option Refusal → Done
   open_by address endpoint direction size limit (Some refusal) = done (declined refusal) places b
@@ -102,7 +88,7 @@ module _ (places : Places) (b : Bus) (number : ℕ) where
   recovered p (Some refusal) = with_state p p.toggle (next_standing p.standing RecoverFailed)
 
   abbrev pub recover_end : Pipe → Requesting → Done
-  recover_end p s = done (clear_answer s.clearing) (slice_set places number (Some (recovered p s.clearing.stop))) s.bus
+  recover_end p s = done (clear_answer s.clearing) (slice_set places number (Some (recovered p s.clearing.tally.stop))) s.bus
 
   abbrev pub recover_by : Result Pipe Refusal → Done
   recover_by (Err refusal) = done (declined refusal) places b
@@ -120,9 +106,9 @@ module _ (places : Places) (b : Bus) (number : ℕ) where
   close_done = close_by (present places number)
 
 -- look: the pipe's standing and toggle
-abbrev pub look_by : Result Pipe Refusal → Looked
-look_by (Err refusal) = looked_refused refusal
-look_by (Ok p) = looked_at p.standing p.toggle
+abbrev pub look_by : Result Pipe Refusal → Result Looked Refusal
+look_by (Err refusal) = Err refusal
+look_by (Ok p) = Ok (looked_at p.standing p.toggle)
 
-abbrev pub look_answer : Places → ℕ → Looked
+abbrev pub look_answer : Places → ℕ → Result Looked Refusal
 look_answer places number = look_by (present places number)

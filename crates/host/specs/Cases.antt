@@ -10,8 +10,8 @@ use Rattle.port.specs.Bus.{Bus}
 use Rattle.pipes.specs.declared.pipes.Pipe.{Pipe}
 use Rattle.pipes.specs.declared.refusals.Refusal.TheVariants.{NakLimit, ThirdMiss, Stalled}
 use Rattle.pipes.specs.Answers.{answered, fetched}
-use Rattle.host.specs.Calls.{Done, Brought, new_pipe, open_done, send_done, fetch_done}
-use Rattle.pipes.specs.Tables.{Places, pipe_at}
+use Rattle.host.specs.Calls.{Done, Brought, open_done, send_done, fetch_done}
+use Rattle.pipes.specs.Tables.{Places, pipe_at, new_pipe}
 
 -- the printer's endpoint, and the bus with these fates
 abbrev pub printer : Endpoint

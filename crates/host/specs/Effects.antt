@@ -69,7 +69,7 @@ pub record Requested (address number : ℕ) (direction : Direction) (b : Bus) (s
   pub touched : Touched address number direction b s.bus
   pub same_taken : (k : ℕ) → (endpoint_at s.bus k).taken ≡ (endpoint_at b k).taken
   pub same_waiting : (k : ℕ) → (endpoint_at s.bus k).waiting ≡ (endpoint_at b k).waiting
-  pub cleared : none_yet s.clearing.stop ≡ true → Cleared address number direction s.bus
+  pub cleared : none_yet s.clearing.tally.stop ≡ true → Cleared address number direction s.bus
 
 abbrev pub RequestsClearOneEndpoint : Type 0
 RequestsClearOneEndpoint =

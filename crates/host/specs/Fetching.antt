@@ -1,6 +1,6 @@
 -- A fetch as a step machine: each step is one try of the next packet, into the part of the buffer behind what was received. It knows
 -- an address, an endpoint, a packet size and a NAK limit, and no pipe. Assumes nothing.
-use Rattle.std.specs.Prelude.{ℕ, ◌+◌, ◌*◌, Bool, false, cond, not, ◌&&◌, List, ◌++◌, length, take, drop, Some, None, Option, ◌==◌, nat_lt}
+use Rattle.std.specs.Prelude.{ℕ, ◌+◌, ◌*◌, Bool, false, cond, not, ◌&&◌, List, ◌++◌, length, take, drop, Some, Option, ◌==◌, nat_lt}
 use Rattle.port.specs.declared.toggles.Toggle.{Toggle}
 use Rattle.port.specs.Toggles.{toggle_of}
 use Rattle.port.specs.Bus.{Bus}
@@ -9,13 +9,14 @@ use Rattle.attempt.specs.declared.tries.Arrival.TheVariants as arrival
 use Rattle.attempt.specs.Tries.{in_answer, in_arrival, in_room, after_in}
 use Rattle.pipes.specs.declared.answers.Answer.{Answer}
 use Rattle.host.specs.declared.fetching.Intake.{Intake}
+use Rattle.host.specs.declared.tallies.Tally.{Tally}
 use Rattle.pipes.specs.declared.pipes.Event.{Event}
 use Rattle.pipes.specs.declared.pipes.Event.TheVariants as event
 use Rattle.pipes.specs.declared.refusals.Refusal.{Refusal}
 use Rattle.pipes.specs.declared.refusals.Refusal.TheVariants.{PacketTooLong}
 use Rattle.pipes.specs.Answers.{fetched}
-use Rattle.pipes.specs.Counting.{fresh_counts, verdict, counted, succeeded, stop_of}
 use Rattle.host.specs.Machines.{run}
+use Rattle.host.specs.Tallies.{no_tries, tallied}
 use Rattle.host.specs.Sending.{none_yet}
 
 -- how far a fetch has come, the buffer and the bus
@@ -45,22 +46,23 @@ long_stop arrival.Nothing stop = stop
 long_stop (arrival.Read n) stop = stop
 long_stop arrival.TooLong stop = Some PacketTooLong
 
--- the progress after a try: on success the packet's bytes are received and counting starts anew
+-- the tally of a fetch that such a packet stops, if it does
+abbrev pub long_stopped : Arrival → Tally → Tally
+long_stopped came t = record { counts = t.counts; tries = t.tries; last = t.last; stop = long_stop came t.stop }
+
+-- the progress after a try: on success the packet's bytes are received
 abbrev pub in_judged : ℕ → ℕ → Intake → ℕ → ℕ → Arrival → Intake
 in_judged size limit q code bit came =
     record {
       received = q.received + bytes_in came;
-      counts = cond (succeeded (verdict code q.counts)) (fresh_counts limit) (counted code q.counts);
-      tries = q.tries + 1;
-      last = code;
+      tally = long_stopped came (tallied limit q.tally code);
       toggle = toggle_of bit;
-      stop = long_stop came (stop_of (verdict code q.counts));
       ended = is_short size came;
     }
 
 -- nothing received, nothing tried
 abbrev pub fetch_start : ℕ → Toggle → Intake
-fetch_start limit toggle = record { received = 0; counts = fresh_counts limit; tries = 0; last = 0; toggle = toggle; stop = None; ended = false }
+fetch_start limit toggle = record { received = 0; tally = no_tries limit; toggle = toggle; ended = false }
 
 -- a list with other elements from a place on, as many as there are of them
 abbrev pub written : ℕ → List ℕ → List ℕ → List ℕ
@@ -85,7 +87,7 @@ module _ (address endpoint size limit : ℕ) where
 
   -- no short packet has come, the buffer is not full, and nothing has stopped it
   abbrev pub fetch_going : Fetching → Bool
-  fetch_going s = none_yet s.intake.stop && (not s.intake.ended && nat_lt s.intake.received (length s.buffer))
+  fetch_going s = none_yet s.intake.tally.stop && (not s.intake.ended && nat_lt s.intake.received (length s.buffer))
 
   -- no fetch into a buffer of this length needs more tries: three misses and the NAKs of the limit for each byte
   abbrev pub fetch_budget : ℕ → ℕ
@@ -95,7 +97,7 @@ module _ (address endpoint size limit : ℕ) where
   fetch_run toggle buffer b = run fetch_going fetch_step (fetch_budget (length buffer)) (fetching (fetch_start limit toggle) buffer b)
 
 abbrev pub fetch_answer : Intake → Answer
-fetch_answer q = fetched q.stop q.received q.tries q.last
+fetch_answer q = fetched q.tally.stop q.received q.tally.tries q.tally.last
 
 -- what came of a fetch, by the number of its answer
 abbrev pub fetch_event : ℕ → Event

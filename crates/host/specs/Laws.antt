@@ -10,9 +10,9 @@ use Rattle.pipes.specs.declared.pipes.Standing.TheVariants.{InStep}
 use Rattle.pipes.specs.declared.refusals.Refusal.{Refusal}
 use Rattle.pipes.specs.declared.refusals.Refusal.TheVariants.{NakLimit}
 use Rattle.pipes.specs.Answers.{answer_number, declined}
-use Rattle.pipes.specs.Tables.{Places, pipe_at}
+use Rattle.pipes.specs.Tables.{Places, pipe_at, new_pipe}
 use Rattle.pipes.specs.Checks.{admit_send, admit_fetch, open_refusal, admit_recover, present}
-use Rattle.host.specs.Calls.{done, brought, new_pipe, recovered, open_done, send_done, fetch_done, recover_done, close_done}
+use Rattle.host.specs.Calls.{done, brought, recovered, open_done, send_done, fetch_done, recover_done, close_done}
 
 -- the place of a pipe's endpoint among the devices' endpoints, and the endpoint
 abbrev pub spot : Pipe → Bus → ℕ

@@ -1,4 +1,5 @@
 pub mod Machines
+pub mod Tallies
 pub mod Sending
 pub mod Fetching
 pub mod Opening

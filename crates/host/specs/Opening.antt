@@ -1,5 +1,5 @@
 -- The clear request as a step machine: SETUP, then HS-IN, each tried until it succeeds or stops it. Assumes nothing.
-use Rattle.std.specs.Prelude.{ℕ, ◌+◌, ◌*◌, ◌%◌, Bool, true, false, cond, not, ◌&&◌, List, [], ◌∷◌, None}
+use Rattle.std.specs.Prelude.{ℕ, ◌+◌, ◌*◌, ◌%◌, Bool, true, false, cond, not, ◌&&◌, List, [], ◌∷◌}
 use Rattle.port.specs.declared.directions.Direction.{Direction}
 use Rattle.port.specs.declared.directions.Direction.TheVariants.{Out, In}
 use Rattle.port.specs.Bus.{Bus}
@@ -9,8 +9,9 @@ use Rattle.host.specs.declared.opening.Clearing.{Clearing}
 use Rattle.host.specs.declared.opening.Stage.{Stage}
 use Rattle.host.specs.declared.opening.Stage.TheVariants.{Setup, Handshake, Done}
 use Rattle.pipes.specs.Answers.{answered}
-use Rattle.pipes.specs.Counting.{fresh_counts, verdict, counted, succeeded, stop_of}
+use Rattle.pipes.specs.Counting.{verdict, succeeded}
 use Rattle.host.specs.Machines.{run}
+use Rattle.host.specs.Tallies.{no_tries, tallied}
 use Rattle.host.specs.Sending.{none_yet}
 
 -- the endpoint byte of the clear request, and the eight bytes
@@ -39,19 +40,16 @@ is_done Setup = false
 is_done Handshake = false
 is_done Done = true
 
--- the progress after a try of a stage: on success the next stage comes, and counting starts anew
+-- the progress after a try of a stage: on success the next stage comes
 abbrev pub stage_judged : ℕ → Clearing → ℕ → Clearing
 stage_judged limit q code =
     record {
-      stage = cond (succeeded (verdict code q.counts)) (next_stage q.stage) q.stage;
-      counts = cond (succeeded (verdict code q.counts)) (fresh_counts limit) (counted code q.counts);
-      tries = q.tries + 1;
-      last = code;
-      stop = stop_of (verdict code q.counts);
+      stage = cond (succeeded (verdict code q.tally.counts)) (next_stage q.stage) q.stage;
+      tally = tallied limit q.tally code;
     }
 
 abbrev pub clear_start : ℕ → Clearing
-clear_start limit = record { stage = Setup; counts = fresh_counts limit; tries = 0; last = 0; stop = None }
+clear_start limit = record { stage = Setup; tally = no_tries limit }
 
 -- the launch value of a stage, and its setup bytes
 abbrev pub stage_value : Stage → ℕ
@@ -77,7 +75,7 @@ module _ (address endpoint : ℕ) (direction : Direction) (limit : ℕ) where
 
   -- a stage is left, and nothing has stopped it
   abbrev pub clear_going : Requesting → Bool
-  clear_going s = none_yet s.clearing.stop && not (is_done s.clearing.stage)
+  clear_going s = none_yet s.clearing.tally.stop && not (is_done s.clearing.stage)
 
   -- no request needs more tries than this: three misses and the NAKs of the limit for each of the two stages
   abbrev pub clear_budget : ℕ
@@ -87,4 +85,4 @@ module _ (address endpoint : ℕ) (direction : Direction) (limit : ℕ) where
   clear_run b = run clear_going clear_step clear_budget (requesting (clear_start limit) b)
 
 abbrev pub clear_answer : Clearing → Answer
-clear_answer q = answered q.stop 0 0 q.tries q.last
+clear_answer q = answered q.tally.stop 0 0 q.tally.tries q.tally.last

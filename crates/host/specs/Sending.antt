@@ -10,8 +10,9 @@ use Rattle.pipes.specs.declared.refusals.Refusal.{Refusal}
 use Rattle.host.specs.declared.sending.Progress.{Progress}
 use Rattle.pipes.specs.Answers.{answered}
 use Rattle.pipes.specs.declared.answers.Answer.{Answer}
-use Rattle.pipes.specs.Counting.{fresh_counts, verdict, counted, succeeded, stop_of}
+use Rattle.pipes.specs.Counting.{verdict, succeeded}
 use Rattle.host.specs.Machines.{run}
+use Rattle.host.specs.Tallies.{no_tries, tallied}
 
 abbrev pub none_yet : Option Refusal → Bool
 none_yet None = true
@@ -25,21 +26,18 @@ pub record Sending : Type 0 where
 abbrev pub sending : Progress → Bus → Sending
 sending q b = record { progress = q; bus = b }
 
--- the progress after a try of a packet of this length: on success the packet is sent and counting starts anew
+-- the progress after a try of a packet of this length: on success the packet is sent
 abbrev pub judged : ℕ → Progress → ℕ → ℕ → ℕ → Progress
 judged limit q long code bit =
     record {
-      sent = cond (succeeded (verdict code q.counts)) (q.sent + long) q.sent;
-      counts = cond (succeeded (verdict code q.counts)) (fresh_counts limit) (counted code q.counts);
-      tries = q.tries + 1;
-      last = code;
+      sent = cond (succeeded (verdict code q.tally.counts)) (q.sent + long) q.sent;
+      tally = tallied limit q.tally code;
       toggle = toggle_of bit;
-      stop = stop_of (verdict code q.counts);
     }
 
 -- nothing sent, nothing tried, the pipe's toggle
 abbrev pub send_start : Pipe → Progress
-send_start p = record { sent = 0; counts = fresh_counts p.limit; tries = 0; last = 0; toggle = p.toggle; stop = None }
+send_start p = record { sent = 0; tally = no_tries p.limit; toggle = p.toggle }
 
 module _ (p : Pipe) (message : List ℕ) where
   -- the packet that is tried next: as many bytes as the packet size, or what is left
@@ -59,7 +57,7 @@ module _ (p : Pipe) (message : List ℕ) where
 
   -- there is more to send, and nothing has stopped it
   abbrev pub send_going : Sending → Bool
-  send_going s = none_yet s.progress.stop && nat_lt s.progress.sent (length message)
+  send_going s = none_yet s.progress.tally.stop && nat_lt s.progress.sent (length message)
 
   -- no send needs more tries than this: three misses and the NAKs of the limit for each byte
   abbrev pub send_budget : ℕ
@@ -70,10 +68,10 @@ module _ (p : Pipe) (message : List ℕ) where
 
   -- the bytes that the device may have taken: the packet at which the send stopped, if any try of it was a miss
   abbrev pub doubt : Progress → ℕ
-  doubt q = cond (none_yet q.stop) 0 (cond q.counts.missed (length (send_packet q)) 0)
+  doubt q = cond (none_yet q.tally.stop) 0 (cond q.tally.counts.missed (length (send_packet q)) 0)
 
   abbrev pub send_answer : Progress → Answer
-  send_answer q = answered q.stop q.sent (doubt q) q.tries q.last
+  send_answer q = answered q.tally.stop q.sent (doubt q) q.tally.tries q.tally.last
 
 -- what came of a send, by the number of its answer and how many bytes are doubtful
 abbrev pub send_event : ℕ → ℕ → Event

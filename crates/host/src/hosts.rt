@@ -1,37 +1,22 @@
 // The host: a port, held by value, beside the pipe table; and its calls, total over any numbers, bytes and buffers.
 ghost use Rattle.std.specs.Prelude.{◌≡◌, ◌≤◌, length, replicate, Some, None, Err};
 ghost use Rattle.pipes.specs.declared.refusals.Refusal.{Refusal as Why};
-ghost use Rattle.pipes.specs.Answers.{declined};
 ghost use Rattle.pipes.specs.Checks.{open_refusal, present, admit_send, admit_fetch, admit_recover};
 ghost use Rattle.host.specs.Opening.{clear_run};
 ghost use Rattle.host.specs.Sending.{send_run};
 ghost use Rattle.host.specs.Fetching.{fetch_run};
-ghost use Rattle.host.specs.Calls.{open_done, send_end, send_done, fetch_end, fetch_done, recover_end, recover_done, close_done, look_answer};
+ghost use Rattle.host.specs.Calls.{open_end, open_done, send_end, send_done, fetch_end, fetch_done, recover_end, recover_done, close_done, look_answer};
 
 use crate::{fetching, opening, sending};
 use pipes::{
-    Answer, Event, Looked, Pipe, Refusal, Standing, Table, admit_fetch, admit_recover, admit_send,
-    open_refusal, present,
+    Answer, Event, Looked, Pipe, PipePlan, Refusal, Table, admit_fetch, admit_open, admit_recover,
+    admit_send, present,
 };
-use port::{Direction, Port, Toggle};
+use port::{Port, Toggle};
 
 pub struct Host<P> {
     port: P,
     table: Table,
-}
-
-// The answer of a call that declines.
-fn decline(refusal: Refusal) -> Answer
-    ensures { result ≡ declined refusal }
-{
-    Answer {
-        refusal: Some(refusal),
-        sent: 0,
-        received: 0,
-        doubtful: 0,
-        tries: 0,
-        last: 0,
-    }
 }
 
 impl<P: Port> Host<P> {
@@ -62,45 +47,16 @@ impl<P: Port> Host<P> {
     }
 
     // Opens a pipe to a device endpoint: clears the endpoint, and puts the pipe into its place.
-    pub fn open(
-        &mut self,
-        number: u8,
-        address: u8,
-        endpoint: u8,
-        direction: Direction,
-        size: u8,
-        limit: u8,
-    ) -> Answer
-        ensures answer { result ≡ (open_done self.old.table.pipes (P.meaning self.old.port) number address endpoint direction size limit).answer }
-        ensures table { self.new.table.pipes ≡ (open_done self.old.table.pipes (P.meaning self.old.port) number address endpoint direction size limit).places }
-        ensures after { P.meaning self.new.port ≡ (open_done self.old.table.pipes (P.meaning self.old.port) number address endpoint direction size limit).bus }
-        ensures same { (why : Why) → open_refusal self.old.table.pipes number address endpoint direction size limit ≡ Some why → self.new ≡ self.old }
+    pub fn open(&mut self, number: u8, plan: PipePlan) -> Answer
+        ensures answer { result ≡ (open_done self.old.table.pipes (P.meaning self.old.port) number plan.address plan.endpoint plan.direction plan.size plan.limit).answer }
+        ensures table { self.new.table.pipes ≡ (open_done self.old.table.pipes (P.meaning self.old.port) number plan.address plan.endpoint plan.direction plan.size plan.limit).places }
+        ensures after { P.meaning self.new.port ≡ (open_done self.old.table.pipes (P.meaning self.old.port) number plan.address plan.endpoint plan.direction plan.size plan.limit).bus }
+        ensures same { (why : Why) → open_refusal self.old.table.pipes number plan.address plan.endpoint plan.direction plan.size plan.limit ≡ Some why → self.new ≡ self.old }
     {
-        if let Some(refusal) = open_refusal(
-            &self.table,
-            number,
-            address,
-            endpoint,
-            direction,
-            size,
-            limit,
-        ) {
-            return decline(refusal);
+        match admit_open(&self.table, number, plan) {
+            Ok(pipe) => self.open_pipe(number, pipe),
+            Err(refusal) => Answer::declined(refusal),
         }
-        let clearing = opening::clear(&mut self.port, address, endpoint, direction, limit);
-        if clearing.stop.is_none() {
-            let pipe = Pipe {
-                address,
-                endpoint,
-                direction,
-                size,
-                limit,
-                toggle: Toggle::Data0,
-                standing: Standing::InStep,
-            };
-            self.table.store(number, Some(pipe));
-        }
-        opening::answer(clearing)
     }
 
     // Sends a message of 1 to 1,024 bytes over an OUT pipe.
@@ -112,7 +68,7 @@ impl<P: Port> Host<P> {
     {
         match admit_send(&self.table, number, message.len()) {
             Ok(pipe) => self.send_over(number, pipe, message),
-            Err(refusal) => decline(refusal),
+            Err(refusal) => Answer::declined(refusal),
         }
     }
 
@@ -127,7 +83,7 @@ impl<P: Port> Host<P> {
     {
         match admit_fetch(&self.table, number, buffer.len()) {
             Ok(pipe) => self.fetch_over(number, pipe, buffer),
-            Err(refusal) => decline(refusal),
+            Err(refusal) => Answer::declined(refusal),
         }
     }
 
@@ -140,26 +96,19 @@ impl<P: Port> Host<P> {
     {
         match admit_recover(&self.table, number) {
             Ok(pipe) => self.recover_pipe(number, pipe),
-            Err(refusal) => decline(refusal),
+            Err(refusal) => Answer::declined(refusal),
         }
     }
 
     // Shows a pipe's standing and toggle.
-    pub fn look(&self, number: u8) -> Looked
+    pub fn look(&self, number: u8) -> Result<Looked, Refusal>
         ensures { result ≡ look_answer self.now.table.pipes number }
     {
-        match present(&self.table, number) {
-            Ok(pipe) => Looked {
-                refusal: None,
-                standing: Some(pipe.standing),
-                toggle: pipe.toggle.number(),
-            },
-            Err(refusal) => Looked {
-                refusal: Some(refusal),
-                standing: None,
-                toggle: 0,
-            },
-        }
+        let pipe = present(&self.table, number)?;
+        Ok(Looked {
+            standing: pipe.standing,
+            toggle: pipe.toggle,
+        })
     }
 
     // Makes a pipe absent.
@@ -172,17 +121,23 @@ impl<P: Port> Host<P> {
         match present(&self.table, number) {
             Ok(_) => {
                 self.table.store(number, None);
-                Answer {
-                    refusal: None,
-                    sent: 0,
-                    received: 0,
-                    doubtful: 0,
-                    tries: 0,
-                    last: 0,
-                }
+                Answer::default()
             }
-            Err(refusal) => decline(refusal),
+            Err(refusal) => Answer::declined(refusal),
         }
+    }
+
+    // An open of a new pipe, which is put into its place where the endpoint was cleared.
+    fn open_pipe(&mut self, number: u8, pipe: Pipe) -> Answer
+        ensures answer { result ≡ (open_end self.old.table.pipes (P.meaning self.old.port) number pipe (clear_run pipe.address pipe.endpoint pipe.direction pipe.limit (P.meaning self.old.port))).answer }
+        ensures table { self.new.table.pipes ≡ (open_end self.old.table.pipes (P.meaning self.old.port) number pipe (clear_run pipe.address pipe.endpoint pipe.direction pipe.limit (P.meaning self.old.port))).places }
+        ensures after { P.meaning self.new.port ≡ (open_end self.old.table.pipes (P.meaning self.old.port) number pipe (clear_run pipe.address pipe.endpoint pipe.direction pipe.limit (P.meaning self.old.port))).bus }
+    {
+        let clearing = opening::clear(&mut self.port, pipe);
+        if clearing.tally.stop.is_none() {
+            self.table.store(number, Some(pipe));
+        }
+        clearing.tally.answer()
     }
 
     // A send over a pipe that takes the message.
@@ -207,15 +162,7 @@ impl<P: Port> Host<P> {
         ensures table { self.new.table.pipes ≡ (fetch_end self.old.table.pipes (P.meaning self.old.port) number pipe (fetch_run pipe.address pipe.endpoint pipe.size pipe.limit pipe.toggle buffer.old (P.meaning self.old.port))).places }
         ensures after { P.meaning self.new.port ≡ (fetch_end self.old.table.pipes (P.meaning self.old.port) number pipe (fetch_run pipe.address pipe.endpoint pipe.size pipe.limit pipe.toggle buffer.old (P.meaning self.old.port))).bus }
     {
-        let intake = fetching::fetch(
-            &mut self.port,
-            pipe.address,
-            pipe.endpoint,
-            pipe.size,
-            pipe.limit,
-            pipe.toggle,
-            buffer,
-        );
+        let intake = fetching::fetch(&mut self.port, pipe, buffer);
         let answer = fetching::answer(intake);
         self.table
             .settle(number, pipe, intake.toggle, fetching::event(answer));
@@ -228,20 +175,14 @@ impl<P: Port> Host<P> {
         ensures table { self.new.table.pipes ≡ (recover_end self.old.table.pipes (P.meaning self.old.port) number pipe (clear_run pipe.address pipe.endpoint pipe.direction pipe.limit (P.meaning self.old.port))).places }
         ensures after { P.meaning self.new.port ≡ (recover_end self.old.table.pipes (P.meaning self.old.port) number pipe (clear_run pipe.address pipe.endpoint pipe.direction pipe.limit (P.meaning self.old.port))).bus }
     {
-        let clearing = opening::clear(
-            &mut self.port,
-            pipe.address,
-            pipe.endpoint,
-            pipe.direction,
-            pipe.limit,
-        );
-        if clearing.stop.is_none() {
+        let clearing = opening::clear(&mut self.port, pipe);
+        if clearing.tally.stop.is_none() {
             self.table
                 .settle(number, pipe, Toggle::Data0, Event::Succeeded);
         } else {
             self.table
                 .settle(number, pipe, pipe.toggle, Event::RecoverFailed);
         }
-        opening::answer(clearing)
+        clearing.tally.answer()
     }
 }

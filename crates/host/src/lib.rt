@@ -7,6 +7,8 @@ mod hosts;
 pub mod laws;
 mod opening;
 mod sending;
+mod tallies;
+mod tries;
 
 pub use hosts::Host;
-pub use pipes::{Answer, Looked, Pipe, Refusal, Standing};
+pub use pipes::{Answer, Looked, Pipe, PipePlan, Refusal, Standing};

@@ -3,8 +3,10 @@ ghost use Rattle.std.specs.Prelude.{◌≡◌, ◌+◌, ◌^◌, ◌<◌, ◌≤
 ghost use Rattle.host.specs.Sending.{sending, none_yet, judged, send_start, send_step, send_run, send_answer, send_event};
 ghost use Rattle.pipes.specs.Answers.{answer_number};
 
+use crate::tallies::Tally;
+use crate::tries::most_tries;
 use attempt::{Packet, try_out};
-use pipes::{Answer, Counts, Event, Pipe, Refusal};
+use pipes::{Answer, Event, Pipe, Refusal};
 use port::{Port, Toggle};
 
 // How far a send has come.
@@ -12,14 +14,9 @@ use port::{Port, Toggle};
 pub(crate) struct Progress {
     // bytes of the packets that were acknowledged
     pub(crate) sent: usize,
-    // the counts of the present packet
-    pub(crate) counts: Counts,
-    pub(crate) tries: u32,
-    // the result code of the last try
-    pub(crate) last: u8,
+    pub(crate) tally: Tally,
     // the toggle after the last try
     pub(crate) toggle: Toggle,
-    pub(crate) stop: Option<Refusal>,
 }
 
 impl Progress {
@@ -28,46 +25,38 @@ impl Progress {
     {
         Progress {
             sent: 0,
-            counts: Counts::new(pipe.limit),
-            tries: 0,
-            last: 0,
+            tally: Tally::new(pipe.limit),
             toggle: pipe.toggle,
-            stop: None,
         }
     }
 
     // Whether there is more to send and nothing has stopped it.
     fn going(&self, length: usize) -> bool
-        ensures { result ≡ (none_yet self.now.stop && nat_lt self.now.sent length) }
+        ensures { result ≡ (none_yet self.now.tally.stop && nat_lt self.now.sent length) }
     {
-        self.stop.is_none() && self.sent < length
+        self.tally.stop.is_none() && self.sent < length
     }
 
     // Notes the result of one try of a packet of this length.
     fn note(&mut self, limit: u8, length: usize, code: u8, toggle: u8)
-        requires tries { self.old.tries + 1 < 2 ^ 32 }
+        requires tries { self.old.tally.tries + 1 < 2 ^ 32 }
         requires sent { self.old.sent + length < 2 ^ 64 }
         ensures { self.new ≡ judged limit self.old length code toggle }
     {
-        let verdict = self.counts.judge(code);
-        if verdict.succeeded() {
+        if self.tally.note(limit, code) {
             self.sent += length;
-            self.counts = Counts::new(limit);
         }
-        self.tries += 1;
-        self.last = code;
-        self.toggle = Toggle::from_number(toggle);
-        self.stop = verdict.refusal();
+        self.toggle = Toggle::from(toggle);
     }
 
     // One try of the present packet.
     fn step<P: Port>(&mut self, port: &mut P, pipe: Pipe, message: &[u8])
-        requires tries { self.old.tries + 1 < 2 ^ 32 }
+        requires tries { self.old.tally.tries + 1 < 2 ^ 32 }
         requires sent { self.old.sent ≤ length message.now }
         ensures progress { self.new ≡ (send_step pipe message.now (sending self.old (P.meaning port.old))).progress }
         ensures after { P.meaning port.new ≡ (send_step pipe message.now (sending self.old (P.meaning port.old))).bus }
     {
-        let packet = Packet::cut(&message[self.sent..message.len()], pipe.size as usize);
+        let packet = Packet::cut(&message[self.sent..], usize::from(pipe.size));
         let length = packet.bytes().len();
         let (code, toggle) = try_out(port, pipe.address, pipe.endpoint, self.toggle, packet);
         self.note(pipe.limit, length, code, toggle);
@@ -82,7 +71,8 @@ pub(crate) fn send<P: Port>(port: &mut P, pipe: Pipe, message: &[u8]) -> Progres
     ensures within { result.sent ≤ length message.now }
 {
     let mut progress = Progress::new(pipe);
-    let budget = message.len() as u32 * (pipe.limit as u32 + 3);
+    let budget = most_tries(message.len(), pipe.limit);
+    // a loop of its own: for one that send, fetch and open share, each machine would have to hold port, pipe and bytes
     for _ in 0..budget {
         if !progress.going(message.len()) {
             return progress;
@@ -97,19 +87,16 @@ pub(crate) fn answer(progress: Progress, pipe: Pipe, message: &[u8]) -> Answer
     requires { progress.sent ≤ length message.now }
     ensures { result ≡ send_answer pipe message.now progress }
 {
-    let packet = Packet::cut(&message[progress.sent..message.len()], pipe.size as usize);
-    let doubtful = if progress.stop.is_some() && progress.counts.missed {
+    let packet = Packet::cut(&message[progress.sent..], usize::from(pipe.size));
+    let doubtful = if progress.tally.stop.is_some() && progress.tally.counts.missed {
         packet.bytes().len()
     } else {
         0
     };
     Answer {
-        refusal: progress.stop,
         sent: progress.sent,
-        received: 0,
         doubtful,
-        tries: progress.tries,
-        last: progress.last,
+        ..progress.tally.answer()
     }
 }
 
@@ -117,10 +104,10 @@ pub(crate) fn answer(progress: Progress, pipe: Pipe, message: &[u8]) -> Answer
 pub(crate) fn event(answer: Answer) -> Event
     ensures { result ≡ send_event (answer_number answer) answer.doubtful }
 {
-    match answer.number() {
-        0 => Event::Succeeded,
-        16 => Event::Stalled,
-        _ if answer.doubtful > 0 => Event::StoppedUnsure,
-        _ => Event::StoppedSure,
+    match answer.refusal {
+        None => Event::Succeeded,
+        Some(Refusal::Stalled) => Event::Stalled,
+        Some(_) if answer.doubtful > 0 => Event::StoppedUnsure,
+        Some(_) => Event::StoppedSure,
     }
 }

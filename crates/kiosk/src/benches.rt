@@ -1,7 +1,6 @@
 // The bench bus of the kiosk.
 use crate::days::{PRINTER, PRINTER_OUT};
-use anyhow::anyhow;
-use bench::{BenchChip, EndpointPlan, SetupError};
+use bench::{BenchChip, EndpointPlan};
 use port::Direction;
 
 pub const PAD: u8 = 9;
@@ -17,36 +16,30 @@ const FATES: [u8; 16] = [
     0x00, 0x00, 0x00, 0x00, 0x2e, 0x00, 0x00, 0x00, 0x00, 0x2e, 0x1e, 0x1e, 0x00, 0x00, 0x00, 0x00,
 ];
 
+const PRINTER_PLAN: EndpointPlan = EndpointPlan {
+    address: PRINTER,
+    number: PRINTER_OUT,
+    direction: Direction::Out,
+    toggle: 1,
+    halted: false,
+    capacity: 4096,
+};
+
+const PAD_PLAN: EndpointPlan = EndpointPlan {
+    address: PAD,
+    number: PAD_IN,
+    direction: Direction::In,
+    toggle: 0,
+    halted: false,
+    capacity: 0,
+};
+
 // A bus with a slip printer and a tag pad on which the atlas lies.
 pub fn bench_bus(rt: &HostRuntime) -> anyhow::Result<BenchChip> {
     let mut chip = BenchChip::new(rt.alloc())?;
-    let printer = EndpointPlan {
-        address: PRINTER,
-        number: PRINTER_OUT,
-        direction: Direction::Out,
-        toggle: 1,
-        halted: false,
-        capacity: 4096,
-    };
-    let pad = EndpointPlan {
-        address: PAD,
-        number: PAD_IN,
-        direction: Direction::In,
-        toggle: 0,
-        halted: false,
-        capacity: 0,
-    };
-    set(chip.add_endpoint(printer))?;
-    set(chip.add_endpoint(pad))?;
-    set(chip.add_packet(PAD, PAD_IN, LABEL))?;
-    set(chip.add_fates(&FATES))?;
+    chip.add_endpoint(PRINTER_PLAN)?;
+    chip.add_endpoint(PAD_PLAN)?;
+    chip.add_packet(PAD, PAD_IN, LABEL)?;
+    chip.add_fates(&FATES)?;
     Ok(chip)
-}
-
-fn set(done: Result<(), SetupError>) -> anyhow::Result<()> {
-    match done {
-        Ok(()) => Ok(()),
-        Err(SetupError::Refused) => Err(anyhow!("the bench refused a set-up")),
-        Err(SetupError::NoMemory) => Err(anyhow!("no memory for the bench")),
-    }
 }

@@ -1,7 +1,8 @@
 // What is said of a try, and of the answers of the host.
 use host::{Answer, Refusal};
 use port::Fate;
-use std::fmt;
+use port::results::{NAK, STALL, SUCCESS, WRONG_TOGGLE};
+use std::{fmt, io};
 
 // One try: what was sent or asked for, what became of it on the bus, and the result code that the chip gave.
 #[derive(Drop)]
@@ -23,21 +24,19 @@ fn on_the_bus(fate: Fate) -> &'static str {
 
 fn verdict(code: u8) -> &'static str {
     match code {
-        0 => "done",
-        4 => "busy (NAK)",
-        5 => "halted (STALL)",
-        6 => "wrong toggle",
+        SUCCESS => "done",
+        NAK => "busy (NAK)",
+        STALL => "halted (STALL)",
+        WRONG_TOGGLE => "wrong toggle",
         _ => "no answer heard",
     }
 }
 
 impl fmt::Display for Tried<'_> {
     fn fmt<W: fmt::Write>(&self, f: &mut fmt::Formatter<W>) -> fmt::Result {
-        let what = self.what;
         let bus = on_the_bus(self.fate);
-        let code = self.code;
         let verdict = verdict(self.code);
-        write!(f, "  {what}: {bus}; result {code}, {verdict}")
+        write!(f, "  {}: {bus}; result {}, {verdict}", self.what, self.code)
     }
 }
 
@@ -55,23 +54,23 @@ fn reason(refusal: Option<Refusal>) -> &'static str {
 }
 
 // An open or a recover.
-pub fn tell_cleared(rt: &HostRuntime, answer: Answer) -> anyhow::Result<()> {
-    let number = answer.number();
+pub fn tell_cleared(rt: &HostRuntime, answer: Answer) -> io::Result<()> {
     let reason = reason(answer.refusal);
-    let tries = answer.tries;
-    println!(rt; "  answer {number} (tries {tries}): {reason}")?;
-    Ok(())
+    println!(rt;
+        "  answer {} (tries {}): {reason}",
+        answer.number(),
+        answer.tries
+    )
 }
 
 // A send.
-pub fn tell_sent(rt: &HostRuntime, answer: Answer) -> anyhow::Result<()> {
-    let number = answer.number();
+pub fn tell_sent(rt: &HostRuntime, answer: Answer) -> io::Result<()> {
     let reason = reason(answer.refusal);
-    let sent = answer.sent;
-    let doubtful = answer.doubtful;
-    let tries = answer.tries;
     println!(rt;
-        "  answer {number} (tries {tries}): {reason}; {sent} bytes sent, {doubtful} uncertain"
-    )?;
-    Ok(())
+        "  answer {} (tries {}): {reason}; {} bytes sent, {} uncertain",
+        answer.number(),
+        answer.tries,
+        answer.sent,
+        answer.doubtful,
+    )
 }

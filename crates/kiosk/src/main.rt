@@ -2,13 +2,12 @@
 // cable that loses acknowledgements; once more over a framed port; and the frames of one packet. Prints what happened, for a person.
 #![tactic(auto)]
 
-mod analysis;
 mod benches;
 mod days;
 mod journal;
+mod listening;
 mod papers;
 mod stages;
-mod taps;
 mod telling;
 
 use benches::PAD;
@@ -23,8 +22,8 @@ fn run(rt: &HostRuntime) -> anyhow::Result<()> {
     println!(rt; "")?;
     stages::over_frames(rt, day)?;
     println!(rt; "")?;
-    stages::one_packet(rt)?;
-    stages::layered(rt)
+    listening::one_packet(rt)?;
+    listening::layered(rt)
 }
 
 fn main(rt: HostRuntime) -> anyhow::Result<()> {

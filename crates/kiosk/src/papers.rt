@@ -6,7 +6,7 @@ use port::Direction;
 pub fn show_paper(rt: &HostRuntime, chip: &BenchChip, slips: usize) -> anyhow::Result<()> {
     for endpoint in chip.endpoints() {
         let state = endpoint.state();
-        if let Direction::Out = state.direction {
+        if state.direction == Direction::Out {
             show_taken(rt, state.taken, slips)?;
         }
     }

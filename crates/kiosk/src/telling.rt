@@ -2,9 +2,10 @@
 use crate::days::Day;
 use crate::journal::{tell_cleared, tell_sent};
 use host::Answer;
+use std::io;
 
 // The first slip.
-fn tell_first(rt: &HostRuntime, day: Day) -> anyhow::Result<()> {
+fn tell_first(rt: &HostRuntime, day: Day) -> io::Result<()> {
     println!(rt; "The printer's pipe is opened, so that both sides start at DATA0:")?;
     tell_cleared(rt, day.opened)?;
     println!(rt;
@@ -14,20 +15,19 @@ fn tell_first(rt: &HostRuntime, day: Day) -> anyhow::Result<()> {
 }
 
 // The second slip.
-fn tell_second(rt: &HostRuntime, day: Day) -> anyhow::Result<()> {
+fn tell_second(rt: &HostRuntime, day: Day) -> io::Result<()> {
     println!(rt; "Somebody kicks the cable. A second slip:")?;
     tell_sent(rt, day.second)?;
-    let sent = day.second.sent;
-    let doubtful = day.second.doubtful;
     println!(rt;
-        "  So {sent} bytes are printed for certain. The next {doubtful} may be printed or not: no answer was heard."
+        "  So {} bytes are printed for certain. The next {} may be printed or not: no answer was heard.",
+        day.second.sent, day.second.doubtful,
     )?;
     println!(rt; "The host sends nothing more over that pipe until it is recovered:")?;
     tell_sent(rt, day.early)
 }
 
 // The second slip once more.
-fn tell_rest(rt: &HostRuntime, day: Day) -> anyhow::Result<()> {
+fn tell_rest(rt: &HostRuntime, day: Day) -> io::Result<()> {
     println!(rt; "The cable is put right, and the pipe is recovered:")?;
     tell_cleared(rt, day.recovered)?;
     println!(rt;
@@ -36,39 +36,30 @@ fn tell_rest(rt: &HostRuntime, day: Day) -> anyhow::Result<()> {
     tell_sent(rt, day.rest)
 }
 
-pub fn tell(rt: &HostRuntime, day: Day) -> anyhow::Result<()> {
+pub fn tell(rt: &HostRuntime, day: Day) -> io::Result<()> {
     tell_first(rt, day)?;
     tell_second(rt, day)?;
     tell_rest(rt, day)
 }
 
-fn alike(a: Answer, b: Answer) -> bool {
-    a.number() == b.number()
-        && a.sent == b.sent
-        && a.doubtful == b.doubtful
-        && a.tries == b.tries
-        && a.last == b.last
-}
-
 // One call, beside the same call over the chip itself.
-fn compare(rt: &HostRuntime, call: &str, answer: Answer, before: Answer) -> anyhow::Result<()> {
-    let number = answer.number();
-    let sent = answer.sent;
-    let doubtful = answer.doubtful;
-    let tries = answer.tries;
-    let same = if alike(answer, before) {
+fn compare(rt: &HostRuntime, call: &str, answer: Answer, before: Answer) -> io::Result<()> {
+    let same = if answer == before {
         "as before"
     } else {
         "NOT as before"
     };
     println!(rt;
-        "  {call}: answer {number}, {sent} sent, {doubtful} uncertain, tries {tries}; {same}"
-    )?;
-    Ok(())
+        "  {call}: answer {}, {} sent, {} uncertain, tries {}; {same}",
+        answer.number(),
+        answer.sent,
+        answer.doubtful,
+        answer.tries,
+    )
 }
 
 // A day beside another.
-pub fn tell_again(rt: &HostRuntime, day: Day, before: Day) -> anyhow::Result<()> {
+pub fn tell_again(rt: &HostRuntime, day: Day, before: Day) -> io::Result<()> {
     compare(rt, "open", day.opened, before.opened)?;
     compare(rt, "first slip", day.first, before.first)?;
     compare(rt, "second slip", day.second, before.second)?;

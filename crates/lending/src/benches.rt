@@ -1,5 +1,4 @@
 // The bench bus of the kiosk.
-use anyhow::anyhow;
 use bench::{BenchChip, EndpointPlan, SetupError};
 use port::Direction;
 
@@ -76,9 +75,6 @@ fn equip(chip: &mut BenchChip, fates: &[u8]) -> Result<(), SetupError> {
 // The bus of the kiosk, on which transactions meet these fates.
 pub fn bench_bus(rt: &HostRuntime, fates: &[u8]) -> anyhow::Result<BenchChip> {
     let mut chip = BenchChip::new(rt.alloc())?;
-    match equip(&mut chip, fates) {
-        Ok(()) => Ok(chip),
-        Err(SetupError::Refused) => Err(anyhow!("the bench refused a set-up")),
-        Err(SetupError::NoMemory) => Err(anyhow!("no memory for the bench")),
-    }
+    equip(&mut chip, fates)?;
+    Ok(chip)
 }

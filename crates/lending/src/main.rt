@@ -2,16 +2,13 @@
 // acknowledgements; the same over a framed port; and the frames of one packet. Prints what happened, for a person.
 #![tactic(auto)]
 
-mod analysis;
 mod benches;
-mod comparing;
 mod days;
 mod listening;
 mod papers;
 mod replies;
 mod stages;
 mod steps;
-mod taps;
 mod telling;
 
 use benches::{PAD, PRINTER};
@@ -23,7 +20,7 @@ fn run(rt: &HostRuntime) -> anyhow::Result<()> {
     let day = stages::over_the_chip(rt)?;
     stages::over_frames(rt, &day)?;
     listening::one_packet(rt)?;
-    stages::layered(rt)
+    listening::layered(rt)
 }
 
 fn main(rt: HostRuntime) -> anyhow::Result<()> {

@@ -21,50 +21,55 @@ fn reason(refusal: Option<Refusal>) -> &'static str {
     }
 }
 
-fn standing(standing: Option<Standing>) -> &'static str {
+fn standing(standing: Standing) -> &'static str {
     match standing {
-        Some(Standing::InStep) => "in step",
-        Some(Standing::Doubtful) => "doubtful",
-        Some(Standing::Halted) => "halted",
-        None => "no pipe",
+        Standing::InStep => "in step",
+        Standing::Doubtful => "doubtful",
+        Standing::Halted => "halted",
     }
 }
 
 // 0 for success, else the refusal's number.
 pub fn number(outcome: &Outcome) -> u8 {
     match outcome {
-        Outcome::Answered(answer) => answer.number(),
-        Outcome::Fetched(answer, _) => answer.number(),
-        Outcome::Shown(looked) => looked.number(),
+        Outcome::Answered(answer) | Outcome::Fetched(answer, _) => answer.number(),
+        Outcome::Shown(Ok(_)) => 0,
+        Outcome::Shown(Err(refusal)) => refusal.number(),
     }
 }
 
 // An open, a recover or a close, and a send that sent nothing.
 fn answered<W: fmt::Write>(answer: &Answer, f: &mut fmt::Formatter<W>) -> fmt::Result {
-    let number = answer.number();
-    let tries = answer.tries;
     let reason = reason(answer.refusal);
-    write!(f, "  answer {number}, tries {tries}: {reason}")
+    write!(
+        f,
+        "  answer {}, tries {}: {reason}",
+        answer.number(),
+        answer.tries
+    )
 }
 
 fn sent<W: fmt::Write>(answer: &Answer, f: &mut fmt::Formatter<W>) -> fmt::Result {
     answered(answer, f)?;
-    let sent = answer.sent;
-    let doubtful = answer.doubtful;
-    write!(f, "; {sent} bytes sent, {doubtful} uncertain")
+    write!(
+        f,
+        "; {} bytes sent, {} uncertain",
+        answer.sent, answer.doubtful
+    )
 }
 
 fn received<W: fmt::Write>(answer: &Answer, f: &mut fmt::Formatter<W>) -> fmt::Result {
     answered(answer, f)?;
-    let received = answer.received;
-    write!(f, "; {received} bytes received")
+    write!(f, "; {} bytes received", answer.received)
 }
 
 fn shown<W: fmt::Write>(looked: &Looked, f: &mut fmt::Formatter<W>) -> fmt::Result {
-    let number = looked.number();
     let standing = standing(looked.standing);
-    let toggle = looked.toggle;
-    write!(f, "  answer {number}: {standing}, at DATA{toggle}")
+    write!(
+        f,
+        "  answer 0: {standing}, at DATA{}",
+        u8::from(looked.toggle)
+    )
 }
 
 impl fmt::Display for Reply<'_> {
@@ -73,7 +78,10 @@ impl fmt::Display for Reply<'_> {
             Outcome::Answered(answer) if answer.sent > 0 || answer.doubtful > 0 => sent(answer, f),
             Outcome::Answered(answer) => answered(answer, f),
             Outcome::Fetched(answer, _) => received(answer, f),
-            Outcome::Shown(looked) => shown(looked, f),
+            Outcome::Shown(Ok(looked)) => shown(looked, f),
+            Outcome::Shown(Err(refusal)) => {
+                write!(f, "  answer {}: no pipe, at DATA0", refusal.number())
+            }
         }
     }
 }

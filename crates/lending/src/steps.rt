@@ -1,20 +1,33 @@
 // The steps of a day at the kiosk: each is one call to the host.
 use crate::benches::{PAD, PAD_IN, PRINTER, PRINTER_OUT};
+use host::PipePlan;
 use port::Direction;
 use service::Call;
 use std::alloc::{AllocError, Global};
+use std::fmt;
 
-pub const PRINTER_PIPE: u8 = 0;
+const PRINTER_PIPE: u8 = 0;
 
 const PAD_PIPE: u8 = 1;
 
-// The packet sizes of the two pipes.
-pub const PRINTER_SIZE: u8 = 16;
-
-const PAD_SIZE: u8 = 8;
-
 // How many NAKs of one packet stop a call.
-pub const LIMIT: u8 = 3;
+const LIMIT: u8 = 3;
+
+pub const PRINTER_PLAN: PipePlan = PipePlan {
+    address: PRINTER,
+    endpoint: PRINTER_OUT,
+    direction: Direction::Out,
+    size: 16,
+    limit: LIMIT,
+};
+
+const PAD_PLAN: PipePlan = PipePlan {
+    address: PAD,
+    endpoint: PAD_IN,
+    direction: Direction::In,
+    size: 8,
+    limit: LIMIT,
+};
 
 // The most bytes of a label: two packets.
 const LABEL_MOST: usize = 16;
@@ -24,7 +37,7 @@ const SLIP: &[u8; 40] = b"\nlent to reader 1187\nback by 8 December\n";
 
 const COPY: &[u8; 38] = b"\nthe clerk's copy\nlent to reader 1187\n";
 
-#[derive(Clone, Copy)]
+#[derive(Clone, Copy, Debug, PartialEq, Eq)]
 pub enum Step {
     OpenPad,
     FetchLabel,
@@ -61,8 +74,8 @@ pub const LENDING: [Step; 10] = [
 ];
 
 // A call that prints the label, and some text below it.
-fn print(heap: Global, label: &[u8], below: &[u8]) -> Result<Call, AllocError> {
-    let mut message = label.to_vec(heap)?;
+fn print(alloc: Global, label: &[u8], below: &[u8]) -> Result<Call, AllocError> {
+    let mut message = label.to_vec(alloc)?;
     message.extend_from_slice(below)?;
     Ok(Call::Send {
         number: PRINTER_PIPE,
@@ -72,30 +85,22 @@ fn print(heap: Global, label: &[u8], below: &[u8]) -> Result<Call, AllocError> {
 
 impl Step {
     // Its call. What is printed begins with the label.
-    pub fn call(self, heap: Global, label: &[u8]) -> Result<Call, AllocError> {
+    pub fn call(self, alloc: Global, label: &[u8]) -> Result<Call, AllocError> {
         match self {
             Step::OpenPad => Ok(Call::Open {
                 number: PAD_PIPE,
-                address: PAD,
-                endpoint: PAD_IN,
-                direction: Direction::In,
-                size: PAD_SIZE,
-                limit: LIMIT,
+                plan: PAD_PLAN,
             }),
             Step::OpenPrinter => Ok(Call::Open {
                 number: PRINTER_PIPE,
-                address: PRINTER,
-                endpoint: PRINTER_OUT,
-                direction: Direction::Out,
-                size: PRINTER_SIZE,
-                limit: LIMIT,
+                plan: PRINTER_PLAN,
             }),
             Step::FetchLabel | Step::FetchAgain => Ok(Call::Fetch {
                 number: PAD_PIPE,
-                buffer: vec![in heap; 0; LABEL_MOST]?,
+                buffer: vec![in alloc; 0; LABEL_MOST]?,
             }),
-            Step::PrintSlip => print(heap, label, SLIP),
-            Step::PrintCopy | Step::PrintTooEarly | Step::PrintAgain => print(heap, label, COPY),
+            Step::PrintSlip => print(alloc, label, SLIP),
+            Step::PrintCopy | Step::PrintTooEarly | Step::PrintAgain => print(alloc, label, COPY),
             Step::LookPad => Ok(Call::Look { number: PAD_PIPE }),
             Step::LookPrinter => Ok(Call::Look {
                 number: PRINTER_PIPE,
@@ -107,25 +112,6 @@ impl Step {
             Step::ClosePrinter => Ok(Call::Close {
                 number: PRINTER_PIPE,
             }),
-        }
-    }
-
-    // What it is, in a few words.
-    pub fn name(self) -> &'static str {
-        match self {
-            Step::OpenPad => "open the pad's pipe",
-            Step::FetchLabel => "fetch the label",
-            Step::LookPad => "look at the pad's pipe",
-            Step::OpenPrinter => "open the printer's pipe",
-            Step::PrintSlip => "print the slip",
-            Step::PrintCopy => "print the copy",
-            Step::PrintTooEarly => "print it again too early",
-            Step::LookPrinter => "look at the printer's pipe",
-            Step::Recover => "recover the printer's pipe",
-            Step::PrintAgain => "print the copy in full",
-            Step::FetchAgain => "fetch once more",
-            Step::ClosePad => "close the pad's pipe",
-            Step::ClosePrinter => "close the printer's pipe",
         }
     }
 
@@ -153,5 +139,26 @@ impl Step {
             Step::ClosePad => "The pad's pipe is closed.",
             Step::ClosePrinter => "The printer's pipe is closed.",
         }
+    }
+}
+
+// What it is, in a few words.
+impl fmt::Display for Step {
+    fn fmt<W: fmt::Write>(&self, f: &mut fmt::Formatter<W>) -> fmt::Result {
+        f.write_str(match self {
+            Step::OpenPad => "open the pad's pipe",
+            Step::FetchLabel => "fetch the label",
+            Step::LookPad => "look at the pad's pipe",
+            Step::OpenPrinter => "open the printer's pipe",
+            Step::PrintSlip => "print the slip",
+            Step::PrintCopy => "print the copy",
+            Step::PrintTooEarly => "print it again too early",
+            Step::LookPrinter => "look at the printer's pipe",
+            Step::Recover => "recover the printer's pipe",
+            Step::PrintAgain => "print the copy in full",
+            Step::FetchAgain => "fetch once more",
+            Step::ClosePad => "close the pad's pipe",
+            Step::ClosePrinter => "close the printer's pipe",
+        })
     }
 }

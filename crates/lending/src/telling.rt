@@ -1,5 +1,4 @@
 // A day in words.
-use crate::comparing::same;
 use crate::days::Day;
 use crate::papers::show_paper;
 use crate::replies::{Reply, number};
@@ -9,11 +8,7 @@ use std::io;
 
 // What came of each call of a list.
 fn tell_calls(rt: &HostRuntime, steps: &[Step], outcomes: &[Outcome]) -> io::Result<()> {
-    let mut rest = outcomes.iter();
-    for step in steps {
-        let Some(outcome) = rest.next() else {
-            break;
-        };
+    for (step, outcome) in steps.iter().zip(outcomes) {
         rt.println(step.story())?;
         rt.println(Reply(outcome))?;
     }
@@ -39,14 +34,12 @@ pub fn tell(rt: &HostRuntime, day: &Day) -> anyhow::Result<()> {
 
 // One call, beside the same call on another day.
 fn compare(rt: &HostRuntime, step: Step, outcome: &Outcome, before: &Outcome) -> io::Result<()> {
-    let name = step.name();
-    let number = number(outcome);
-    let as_before = if same(outcome, before) {
+    let as_before = if outcome == before {
         "as before"
     } else {
         "NOT as before"
     };
-    println!(rt; "  {name}: answer {number}, {as_before}")
+    println!(rt; "  {step}: answer {}, {as_before}", number(outcome))
 }
 
 // The calls of a list, beside the same calls on another day.
@@ -56,12 +49,7 @@ fn compare_calls(
     outcomes: &[Outcome],
     before: &[Outcome],
 ) -> io::Result<()> {
-    let mut rest = outcomes.iter();
-    let mut earlier = before.iter();
-    for step in steps {
-        let (Some(outcome), Some(before)) = (rest.next(), earlier.next()) else {
-            break;
-        };
+    for (step, (outcome, before)) in steps.iter().zip(outcomes.iter().zip(before)) {
         compare(rt, *step, outcome, before)?;
     }
     Ok(())

@@ -1,14 +1,14 @@
-// The receive buffer: the bytes of one packet, and how many of them were taken.
-ghost use Rattle.std.specs.Prelude.{◌≡◌, ◌≤◌, vec_len};
+// The receive buffer: the bytes of one packet that are left to take. Its memory is got once, so that filling it cannot fail.
+ghost use Rattle.std.specs.Prelude.{◌≤◌};
+ghost use Rattle.std.specs.VecDeque.{deque_len, deque_capacity};
 
-use crate::rooms::Room;
+use std::collections::VecDeque;
 
 mod methods;
 
 #[derive(Drop)]
 pub struct Inbox {
-    room: Room,
-    read: usize,
-    ghost within: { read ≤ vec_len room.bytes },
-    ghost size: { room.size ≡ 64 },
+    bytes: VecDeque<u8>,
+    ghost room: { 64 ≤ deque_capacity bytes },
+    ghost most: { deque_len bytes ≤ 64 },
 }

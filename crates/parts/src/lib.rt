@@ -2,6 +2,7 @@
 #![tactic(auto)]
 
 pub mod inboxes;
+mod pushes;
 pub mod queues;
 pub mod records;
 pub mod rooms;

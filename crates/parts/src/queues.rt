@@ -1,10 +1,11 @@
 // The source of a bench chip's fates: a queue of bytes, one for each legal launch to come.
 ghost use Rattle.std.specs.Prelude.{◌≡◌, [], ◌++◌, length, MatchResult};
-ghost use Rattle.port.specs.Fates.{Real};
 ghost use Rattle.port.specs.Bus.{next_fate, later_fates};
 ghost use Rattle.parts.specs.Queues.{queue_bytes};
 
+use crate::pushes::push_all;
 use port::Fate;
+use port::results::NO_ANSWER;
 use std::alloc::{AllocError, Global};
 use std::collections::VecDeque;
 
@@ -14,11 +15,11 @@ pub struct FateQueue {
 }
 
 impl FateQueue {
-    pub fn new(heap: Global) -> FateQueue
+    pub fn new(alloc: Global) -> FateQueue
         ensures { queue_bytes result ≡ [] }
     {
         FateQueue {
-            bytes: VecDeque::new(heap),
+            bytes: VecDeque::new(alloc),
         }
     }
 
@@ -32,10 +33,9 @@ impl FateQueue {
     pub fn peek(&self) -> Fate
         ensures { result ≡ next_fate (queue_bytes self.now) }
     {
-        match self.bytes.front() {
-            Some(byte) => Fate::read(*byte),
-            None => Fate::Lost(14),
-        }
+        self.bytes
+            .front()
+            .map_or(Fate::Lost(NO_ANSWER), |byte| Fate::from(*byte))
     }
 
     // The next fate; when there are none, lost with code 14.
@@ -43,10 +43,9 @@ impl FateQueue {
         ensures value { result ≡ next_fate (queue_bytes self.old) }
         ensures after { queue_bytes self.new ≡ later_fates (queue_bytes self.old) }
     {
-        match self.bytes.pop_front() {
-            Some(byte) => Fate::read(byte),
-            None => Fate::Lost(14),
-        }
+        self.bytes
+            .pop_front()
+            .map_or(Fate::Lost(NO_ANSWER), Fate::from)
     }
 
     // More fates, after those that are there; all of them or, for want of memory, none.
@@ -54,9 +53,7 @@ impl FateQueue {
         ensures { MatchResult result (λ _. queue_bytes self.new ≡ queue_bytes self.old ++ bytes.now) (λ _. queue_bytes self.new ≡ queue_bytes self.old) }
     {
         self.bytes.reserve(bytes.len())?;
-        for byte in bytes {
-            self.bytes.push_back_reserved(*byte);
-        }
+        push_all(&mut self.bytes, bytes);
         Ok(())
     }
 }

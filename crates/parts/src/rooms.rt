@@ -6,6 +6,7 @@ mod methods;
 #[derive(Drop)]
 pub struct Room {
     bytes: Vec<u8>,
+    // how many bytes fit; kept beside them, since the library does not promise that a capacity stays as it was got
     size: usize,
     ghost fits: { (vec_len bytes ≤ size) × (size ≤ vec_capacity bytes) },
 }

@@ -1,7 +1,6 @@
 -- Answers: their number, and the answer of a call that declined. Assumes nothing.
 use Rattle.std.specs.Prelude.{ℕ, Some, None, Option}
 use Rattle.port.specs.declared.toggles.Toggle.{Toggle}
-use Rattle.port.specs.Toggles.{bit}
 use Rattle.pipes.specs.declared.answers.Answer.{Answer}
 use Rattle.pipes.specs.declared.answers.Looked.{Looked}
 use Rattle.pipes.specs.declared.pipes.Standing.{Standing}
@@ -15,9 +14,6 @@ number_of (Some refusal) = refusal_number refusal
 
 abbrev pub answer_number : Answer → ℕ
 answer_number a = number_of a.refusal
-
-abbrev pub looked_number : Looked → ℕ
-looked_number l = number_of l.refusal
 
 -- every answer is made here: that of a fetch, and that of any other call. What a call does not name is 0
 abbrev pub answer_with : Option Refusal → ℕ → ℕ → ℕ → ℕ → ℕ → Answer
@@ -34,8 +30,6 @@ fetched refusal received tries last = answer_with refusal 0 received 0 tries las
 abbrev pub declined : Refusal → Answer
 declined refusal = answered (Some refusal) 0 0 0 0
 
-abbrev pub looked_refused : Refusal → Looked
-looked_refused refusal = record { refusal = Some refusal; standing = None; toggle = 0 }
-
+-- what a look shows of a pipe
 abbrev pub looked_at : Standing → Toggle → Looked
-looked_at standing toggle = record { refusal = None; standing = Some standing; toggle = bit toggle }
+looked_at standing toggle = record { standing = standing; toggle = toggle }

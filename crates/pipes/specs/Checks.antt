@@ -4,11 +4,12 @@ use Rattle.port.specs.declared.directions.Direction.{Direction}
 use Rattle.port.specs.declared.directions.Direction.TheVariants.{Out, In}
 use Rattle.port.specs.Directions.{facing}
 use Rattle.pipes.specs.declared.pipes.Pipe.{Pipe}
+use Rattle.pipes.specs.declared.pipes.PipePlan.{PipePlan}
 use Rattle.pipes.specs.declared.pipes.Standing.{Standing}
 use Rattle.pipes.specs.declared.pipes.Standing.TheVariants.{InStep, Doubtful, Halted}
 use Rattle.pipes.specs.declared.refusals.Refusal.{Refusal}
 use Rattle.pipes.specs.declared.refusals.Refusal.TheVariants.{NoSuchPipe, PipeThere, PipeAbsent, BadAddress, BadEndpoint, BadSize, NoLimit, EndpointTaken, WrongDirection, BadLength, PipeDoubtful, PipeHalted, PipeInStep}
-use Rattle.pipes.specs.Tables.{Places, pipe_at, some_pipe_at}
+use Rattle.pipes.specs.Tables.{Places, pipe_at, some_pipe_at, new_pipe}
 
 abbrev pub good_size : ℕ → Bool
 good_size size = size == 8 || (size == 16 || (size == 32 || size == 64))
@@ -24,6 +25,16 @@ open_refusal places number address endpoint direction size limit =
     (cond (limit == 0) (Some NoLimit)
     (cond (some_pipe_at address endpoint direction places) (Some EndpointTaken)
     None))))))
+
+-- the pipe that an open makes
+abbrev pub unless_refused : Pipe → Option Refusal → Result Pipe Refusal
+unless_refused p None = Ok p
+unless_refused p (Some refusal) = Err refusal
+
+abbrev pub admit_open : Places → ℕ → PipePlan → Result Pipe Refusal
+admit_open places number plan =
+    unless_refused (new_pipe plan.address plan.endpoint plan.direction plan.size plan.limit)
+    (open_refusal places number plan.address plan.endpoint plan.direction plan.size plan.limit)
 
 -- the pipe of a call that needs one: 1 and 3
 abbrev pub there : Option Pipe → Result Pipe Refusal

@@ -1,10 +1,13 @@
 -- The pipe table as a list of places. Assumes nothing.
-use Rattle.std.specs.Prelude.{ℕ, Bool, false, ◌&&◌, ◌||◌, List, [], ◌∷◌, replicate, Some, None, Option, ◌==◌, slice_index_or}
+use Rattle.std.specs.Prelude.{ℕ, Bool, false, ◌&&◌, List, replicate, Some, None, Option, ◌==◌, slice_index_or}
+use Rattle.std.specs.List.{list_any}
 use Rattle.port.specs.declared.directions.Direction.{Direction}
 use Rattle.port.specs.declared.toggles.Toggle.{Toggle}
+use Rattle.port.specs.declared.toggles.Toggle.TheVariants.{Data0}
 use Rattle.port.specs.Directions.{facing}
 use Rattle.pipes.specs.declared.pipes.Pipe.{Pipe}
 use Rattle.pipes.specs.declared.pipes.Standing.{Standing}
+use Rattle.pipes.specs.declared.pipes.Standing.TheVariants.{InStep}
 
 abbrev pub Places : Type 0
 Places = List (Option Pipe)
@@ -24,8 +27,7 @@ leads_to address endpoint direction (Some p) = p.address == address && (p.endpoi
 
 -- some pipe does
 abbrev pub some_pipe_at : ℕ → ℕ → Direction → Places → Bool
-some_pipe_at address endpoint direction [] = false
-some_pipe_at address endpoint direction (place ∷ places) = leads_to address endpoint direction place || some_pipe_at address endpoint direction places
+some_pipe_at address endpoint direction places = list_any (leads_to address endpoint direction) places
 
 -- a pipe with another toggle and standing
 abbrev pub with_state : Pipe → Toggle → Standing → Pipe
@@ -38,4 +40,17 @@ with_state p toggle standing =
       limit = p.limit;
       toggle = toggle;
       standing = standing;
+    }
+
+-- a new pipe: in step, with DATA0
+abbrev pub new_pipe : ℕ → ℕ → Direction → ℕ → ℕ → Pipe
+new_pipe address endpoint direction size limit =
+    record {
+      address = address;
+      endpoint = endpoint;
+      direction = direction;
+      size = size;
+      limit = limit;
+      toggle = Data0;
+      standing = InStep;
     }

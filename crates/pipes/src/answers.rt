@@ -1,22 +1,13 @@
 // What a call answers.
 ghost use Rattle.std.specs.Prelude.{◌≡◌};
-ghost use Rattle.pipes.specs.Answers.{number_of, answer_number, looked_number};
+ghost use Rattle.pipes.specs.Answers.{answer_number, declined};
 
 use crate::pipes::Standing;
 use crate::refusals::Refusal;
-
-// 0 for success, else the refusal's number.
-fn number_of(refusal: Option<Refusal>) -> u8
-    ensures { result ≡ number_of refusal }
-{
-    match refusal {
-        Some(refusal) => refusal.number(),
-        None => 0,
-    }
-}
+use port::Toggle;
 
 // The answer of open, send, fetch, recover and close. What a call does not name is 0, and so is all but the refusal where it declined.
-#[derive(Clone, Copy)]
+#[derive(Clone, Copy, Debug, Default, PartialEq, Eq)]
 pub struct Answer {
     // why the call declined or stopped; none where it succeeded
     pub refusal: Option<Refusal>,
@@ -33,27 +24,27 @@ pub struct Answer {
 }
 
 impl Answer {
+    // The answer of a call that declined.
+    pub fn declined(refusal: Refusal) -> Answer
+        ensures { result ≡ declined refusal }
+    {
+        Answer {
+            refusal: Some(refusal),
+            ..Answer::default()
+        }
+    }
+
     // 0 for success, else the refusal's number.
     pub fn number(self) -> u8
         ensures { result ≡ answer_number self }
     {
-        number_of(self.refusal)
+        self.refusal.map_or(0, |refusal| refusal.number())
     }
 }
 
-// The answer of look. A refusal shows no standing, and toggle 0.
-#[derive(Clone, Copy)]
+// What a look shows of a pipe.
+#[derive(Clone, Copy, Debug, PartialEq, Eq)]
 pub struct Looked {
-    pub refusal: Option<Refusal>,
-    pub standing: Option<Standing>,
-    pub toggle: u8,
-}
-
-impl Looked {
-    // 0 for success, else the refusal's number.
-    pub fn number(self) -> u8
-        ensures { result ≡ looked_number self }
-    {
-        number_of(self.refusal)
-    }
+    pub standing: Standing,
+    pub toggle: Toggle,
 }

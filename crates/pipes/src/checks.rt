@@ -1,10 +1,10 @@
 // The checks of each call, in their order: the refusal of a call that declines, or the pipe that it works on.
 ghost use Rattle.std.specs.Prelude.{◌≡◌};
-ghost use Rattle.pipes.specs.Checks.{good_size, good_buffer, open_refusal, present, by_standing, sendable, fetchable, recoverable, admit_send, admit_fetch, admit_recover};
+ghost use Rattle.pipes.specs.Checks.{good_size, good_buffer, admit_open, present, by_standing, sendable, fetchable, recoverable, admit_send, admit_fetch, admit_recover};
 
-use crate::pipes::{Pipe, Standing};
+use crate::pipes::{Pipe, PipePlan, Standing};
 use crate::refusals::Refusal;
-use crate::tables::Table;
+use crate::tables::{PIPES, Table};
 use port::Direction;
 
 // the longest message and buffer
@@ -13,56 +13,45 @@ const MESSAGE_MOST: usize = 1024;
 fn good_size(size: u8) -> bool
     ensures { result ≡ good_size size }
 {
-    size == 8 || size == 16 || size == 32 || size == 64
+    matches!(size, 8 | 16 | 32 | 64)
 }
 
-// Why an open declines, if it does.
-pub fn open_refusal(
-    table: &Table,
-    number: u8,
-    address: u8,
-    endpoint: u8,
-    direction: Direction,
-    size: u8,
-    limit: u8,
-) -> Option<Refusal>
-    ensures { result ≡ open_refusal table.now.pipes number address endpoint direction size limit }
+// The pipe of an open: in step, with DATA0.
+pub fn admit_open(table: &Table, number: u8, plan: PipePlan) -> Result<Pipe, Refusal>
+    ensures { result ≡ admit_open table.now.pipes number plan }
 {
-    if number > 7 {
-        return Some(Refusal::NoSuchPipe);
+    if usize::from(number) >= PIPES {
+        return Err(Refusal::NoSuchPipe);
     }
     if table.pipe(number).is_some() {
-        return Some(Refusal::PipeThere);
+        return Err(Refusal::PipeThere);
     }
-    if address < 1 || address > 127 {
-        return Some(Refusal::BadAddress);
+    if !(1..=127).contains(&plan.address) {
+        return Err(Refusal::BadAddress);
     }
-    if endpoint < 1 || endpoint > 15 {
-        return Some(Refusal::BadEndpoint);
+    if !(1..=15).contains(&plan.endpoint) {
+        return Err(Refusal::BadEndpoint);
     }
-    if !good_size(size) {
-        return Some(Refusal::BadSize);
+    if !good_size(plan.size) {
+        return Err(Refusal::BadSize);
     }
-    if limit == 0 {
-        return Some(Refusal::NoLimit);
+    if plan.limit == 0 {
+        return Err(Refusal::NoLimit);
     }
-    if table.holds(address, endpoint, direction) {
-        return Some(Refusal::EndpointTaken);
+    if table.holds(plan.address, plan.endpoint, plan.direction) {
+        return Err(Refusal::EndpointTaken);
     }
-    None
+    Ok(Pipe::new(plan))
 }
 
 // The pipe of a call that needs one.
 pub fn present(table: &Table, number: u8) -> Result<Pipe, Refusal>
     ensures { result ≡ present table.now.pipes number }
 {
-    if number > 7 {
+    if usize::from(number) >= PIPES {
         return Err(Refusal::NoSuchPipe);
     }
-    match table.pipe(number) {
-        Some(pipe) => Ok(pipe),
-        None => Err(Refusal::PipeAbsent),
-    }
+    table.pipe(number).ok_or(Refusal::PipeAbsent)
 }
 
 // Whether the pipe is in step, as a send and a fetch need it.
@@ -80,10 +69,10 @@ fn in_step(pipe: Pipe) -> Result<Pipe, Refusal>
 fn sendable(pipe: Pipe, length: usize) -> Result<Pipe, Refusal>
     ensures { result ≡ sendable length pipe }
 {
-    if pipe.direction.is(Direction::In) {
+    if pipe.direction == Direction::In {
         return Err(Refusal::WrongDirection);
     }
-    if length < 1 || length > MESSAGE_MOST {
+    if !(1..=MESSAGE_MOST).contains(&length) {
         return Err(Refusal::BadLength);
     }
     in_step(pipe)
@@ -93,24 +82,21 @@ fn sendable(pipe: Pipe, length: usize) -> Result<Pipe, Refusal>
 pub fn admit_send(table: &Table, number: u8, length: usize) -> Result<Pipe, Refusal>
     ensures { result ≡ admit_send table.now.pipes number length }
 {
-    match present(table, number) {
-        Ok(pipe) => sendable(pipe, length),
-        Err(refusal) => Err(refusal),
-    }
+    sendable(present(table, number)?, length)
 }
 
 // Whether a buffer of this length holds a whole number of packets, one at least, and is not too long.
 fn good_buffer(size: u8, length: usize) -> bool
     ensures { result ≡ good_buffer size length }
 {
-    length >= 1 && length <= MESSAGE_MOST && size > 0 && length % size as usize == 0
+    (1..=MESSAGE_MOST).contains(&length) && size > 0 && length % usize::from(size) == 0
 }
 
 // Whether the pipe has packets for a buffer of this length.
 fn fetchable(pipe: Pipe, length: usize) -> Result<Pipe, Refusal>
     ensures { result ≡ fetchable length pipe }
 {
-    if pipe.direction.is(Direction::Out) {
+    if pipe.direction == Direction::Out {
         return Err(Refusal::WrongDirection);
     }
     if !good_buffer(pipe.size, length) {
@@ -123,10 +109,7 @@ fn fetchable(pipe: Pipe, length: usize) -> Result<Pipe, Refusal>
 pub fn admit_fetch(table: &Table, number: u8, length: usize) -> Result<Pipe, Refusal>
     ensures { result ≡ admit_fetch table.now.pipes number length }
 {
-    match present(table, number) {
-        Ok(pipe) => fetchable(pipe, length),
-        Err(refusal) => Err(refusal),
-    }
+    fetchable(present(table, number)?, length)
 }
 
 fn recoverable(pipe: Pipe) -> Result<Pipe, Refusal>
@@ -134,8 +117,7 @@ fn recoverable(pipe: Pipe) -> Result<Pipe, Refusal>
 {
     match pipe.standing {
         Standing::InStep => Err(Refusal::PipeInStep),
-        Standing::Doubtful => Ok(pipe),
-        Standing::Halted => Ok(pipe),
+        Standing::Doubtful | Standing::Halted => Ok(pipe),
     }
 }
 
@@ -143,8 +125,5 @@ fn recoverable(pipe: Pipe) -> Result<Pipe, Refusal>
 pub fn admit_recover(table: &Table, number: u8) -> Result<Pipe, Refusal>
     ensures { result ≡ admit_recover table.now.pipes number }
 {
-    match present(table, number) {
-        Ok(pipe) => recoverable(pipe),
-        Err(refusal) => Err(refusal),
-    }
+    recoverable(present(table, number)?)
 }

@@ -3,11 +3,12 @@ ghost use Rattle.std.specs.Prelude.{◌≡◌};
 ghost use Rattle.pipes.specs.Counting.{fresh_counts, verdict, counted, succeeded, stop_of};
 
 use crate::refusals::Refusal;
+use port::results::{NAK, STALL, SUCCESS};
 
 // the tries without an answer that stop a packet or stage
 const MISSES: u8 = 3;
 
-#[derive(Clone, Copy)]
+#[derive(Clone, Copy, Debug, PartialEq, Eq)]
 pub struct Counts {
     // how many misses are left, the last of which stops
     pub misses: u8,
@@ -17,8 +18,8 @@ pub struct Counts {
     pub missed: bool,
 }
 
-// What a result code means for the packet or stage.
-#[derive(Clone, Copy)]
+// What a result code means for the packet or stage: three cases, so neither an `Option` nor a `Result`.
+#[derive(Clone, Copy, Debug, PartialEq, Eq)]
 pub enum Verdict {
     Succeeded,
     Again,
@@ -29,11 +30,7 @@ impl Verdict {
     pub fn succeeded(self) -> bool
         ensures { result ≡ succeeded self }
     {
-        match self {
-            Verdict::Succeeded => true,
-            Verdict::Again => false,
-            Verdict::Stop(_) => false,
-        }
+        matches!(self, Verdict::Succeeded)
     }
 
     // Why it stops, if it does.
@@ -41,9 +38,8 @@ impl Verdict {
         ensures { result ≡ stop_of self }
     {
         match self {
-            Verdict::Succeeded => None,
-            Verdict::Again => None,
             Verdict::Stop(refusal) => Some(refusal),
+            Verdict::Succeeded | Verdict::Again => None,
         }
     }
 }
@@ -60,16 +56,16 @@ impl Counts {
         }
     }
 
-    // Counts one result code: 0 succeeds, 4 is a NAK, 5 stops, and every other code is a miss.
+    // Counts one result code. Every code but a success, a NAK and a STALL is a miss.
     pub fn judge(&mut self, code: u8) -> Verdict
         ensures verdict { result ≡ verdict code self.old }
         ensures counts { self.new ≡ counted code self.old }
     {
         match code {
-            0 => Verdict::Succeeded,
-            5 => Verdict::Stop(Refusal::Stalled),
-            4 if self.naks <= 1 => Verdict::Stop(Refusal::NakLimit),
-            4 => {
+            SUCCESS => Verdict::Succeeded,
+            STALL => Verdict::Stop(Refusal::Stalled),
+            NAK if self.naks <= 1 => Verdict::Stop(Refusal::NakLimit),
+            NAK => {
                 self.naks -= 1;
                 Verdict::Again
             }

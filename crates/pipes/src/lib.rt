@@ -10,8 +10,8 @@ mod refusals;
 mod tables;
 
 pub use answers::{Answer, Looked};
-pub use checks::{admit_fetch, admit_recover, admit_send, open_refusal, present};
+pub use checks::{admit_fetch, admit_open, admit_recover, admit_send, present};
 pub use counting::{Counts, Verdict};
-pub use pipes::{Event, Pipe, Standing};
+pub use pipes::{Event, Pipe, PipePlan, Standing};
 pub use refusals::Refusal;
 pub use tables::Table;

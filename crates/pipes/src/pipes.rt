@@ -1,11 +1,12 @@
 // A pipe: the host's side of one device endpoint.
 ghost use Rattle.std.specs.Prelude.{◌≡◌};
 ghost use Rattle.pipes.specs.Standings.{next_standing};
+ghost use Rattle.pipes.specs.Tables.{new_pipe};
 
 use port::{Direction, Toggle};
 
 // How the host stands to the endpoint of a pipe.
-#[derive(Clone, Copy, Debug)]
+#[derive(Clone, Copy, Debug, PartialEq, Eq)]
 pub enum Standing {
     // host and device agree on the toggle
     InStep,
@@ -16,7 +17,7 @@ pub enum Standing {
 }
 
 // What came of a call on a pipe.
-#[derive(Clone, Copy)]
+#[derive(Clone, Copy, Debug, PartialEq, Eq)]
 pub enum Event {
     // it succeeded
     Succeeded,
@@ -39,18 +40,27 @@ impl Standing {
     {
         *self = match (*self, event) {
             (_, Event::Succeeded) => Standing::InStep,
-            (_, Event::StoppedUnsure) => Standing::Doubtful,
-            (_, Event::LongPacket) => Standing::Doubtful,
-            (_, Event::RecoverFailed) => Standing::Doubtful,
+            (standing, Event::StoppedSure) => standing,
+            (_, Event::StoppedUnsure | Event::LongPacket | Event::RecoverFailed) =>
+                Standing::Doubtful,
             (_, Event::Stalled) => Standing::Halted,
-            (Standing::InStep, Event::StoppedSure) => Standing::InStep,
-            (Standing::Doubtful, Event::StoppedSure) => Standing::Doubtful,
-            (Standing::Halted, Event::StoppedSure) => Standing::Halted,
         };
     }
 }
 
-#[derive(Clone, Copy)]
+// What a pipe is opened with.
+#[derive(Clone, Copy, Debug, PartialEq, Eq)]
+pub struct PipePlan {
+    pub address: u8,
+    pub endpoint: u8,
+    pub direction: Direction,
+    // the packet size: 8, 16, 32 or 64
+    pub size: u8,
+    // how many NAKs of one packet or stage stop a call
+    pub limit: u8,
+}
+
+#[derive(Clone, Copy, Debug, PartialEq, Eq)]
 pub struct Pipe {
     pub address: u8,
     pub endpoint: u8,
@@ -61,4 +71,21 @@ pub struct Pipe {
     pub limit: u8,
     pub toggle: Toggle,
     pub standing: Standing,
+}
+
+impl Pipe {
+    // A new pipe: in step, with DATA0.
+    pub(crate) fn new(plan: PipePlan) -> Pipe
+        ensures { result ≡ new_pipe plan.address plan.endpoint plan.direction plan.size plan.limit }
+    {
+        Pipe {
+            address: plan.address,
+            endpoint: plan.endpoint,
+            direction: plan.direction,
+            size: plan.size,
+            limit: plan.limit,
+            toggle: Toggle::Data0,
+            standing: Standing::InStep,
+        }
+    }
 }

@@ -2,42 +2,43 @@
 ghost use Rattle.std.specs.Prelude.{◌≡◌};
 ghost use Rattle.pipes.specs.Refusals.{refusal_number};
 
-#[derive(Clone, Copy, Debug)]
+// Each has the number under which it is known.
+#[derive(Clone, Copy, Debug, PartialEq, Eq)]
 pub enum Refusal {
     // the pipe number is above 7
-    NoSuchPipe,
+    NoSuchPipe = 1,
     // open: the pipe is there
-    PipeThere,
+    PipeThere = 2,
     // any other call: the pipe is absent
-    PipeAbsent,
+    PipeAbsent = 3,
     // the address is not 1 to 127
-    BadAddress,
+    BadAddress = 4,
     // the endpoint is not 1 to 15
-    BadEndpoint,
+    BadEndpoint = 5,
     // the packet size is not 8, 16, 32 or 64
-    BadSize,
+    BadSize = 6,
     // the NAK limit is 0
-    NoLimit,
+    NoLimit = 7,
     // another pipe has this address, endpoint and direction
-    EndpointTaken,
+    EndpointTaken = 8,
     // a send on an IN pipe, or a fetch on an OUT pipe
-    WrongDirection,
+    WrongDirection = 9,
     // a message or buffer of no bytes, or of more than 1,024; a buffer that does not hold a whole number of packets
-    BadLength,
+    BadLength = 10,
     // the pipe is doubtful: recover it first
-    PipeDoubtful,
+    PipeDoubtful = 11,
     // the pipe is halted: recover it first
-    PipeHalted,
+    PipeHalted = 12,
     // recover: the pipe is in step
-    PipeInStep,
+    PipeInStep = 13,
     // the device was busy as often as the limit says
-    NakLimit,
+    NakLimit = 14,
     // the third try without an answer
-    ThirdMiss,
+    ThirdMiss = 15,
     // the device answered STALL
-    Stalled,
+    Stalled = 16,
     // a fetch: the device sent a packet that is longer than the packet size
-    PacketTooLong,
+    PacketTooLong = 17,
 }
 
 impl Refusal {
@@ -45,24 +46,6 @@ impl Refusal {
     pub fn number(self) -> u8
         ensures { result ≡ refusal_number self }
     {
-        match self {
-            Refusal::NoSuchPipe => 1,
-            Refusal::PipeThere => 2,
-            Refusal::PipeAbsent => 3,
-            Refusal::BadAddress => 4,
-            Refusal::BadEndpoint => 5,
-            Refusal::BadSize => 6,
-            Refusal::NoLimit => 7,
-            Refusal::EndpointTaken => 8,
-            Refusal::WrongDirection => 9,
-            Refusal::BadLength => 10,
-            Refusal::PipeDoubtful => 11,
-            Refusal::PipeHalted => 12,
-            Refusal::PipeInStep => 13,
-            Refusal::NakLimit => 14,
-            Refusal::ThirdMiss => 15,
-            Refusal::Stalled => 16,
-            Refusal::PacketTooLong => 17,
-        }
+        self as u8
     }
 }

@@ -7,7 +7,7 @@ mod methods;
 
 pub const PIPES: usize = 8;
 
-#[derive(Clone, Copy)]
+#[derive(Clone, Copy, Debug)]
 pub struct Table {
     pub pipes: [Option<Pipe>; PIPES],
     ghost full: { length pipes ≡ 8 },

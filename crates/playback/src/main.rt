@@ -2,45 +2,26 @@
 // the files named as arguments, each on a bus of its own; with no arguments it is standard input.
 #![tactic(auto)]
 
-mod buses;
-mod calling;
-mod commands;
-mod machines;
-mod preparing;
-mod reading;
-mod running;
-mod saying;
-mod showing;
-
+use scripts::Vocabulary;
 use std::io::Read;
 use std::{env, fs};
 
+// Reading files and printing have no contract, so they stand in each program and not in the library.
 fn print_script(rt: &HostRuntime, script: &[u8]) -> anyhow::Result<()> {
-    let out = running::replay(rt.alloc(), script)?;
+    let out = scripts::run(rt.alloc(), script, Vocabulary::Whole)?;
     print!(rt; "{out}")?;
     Ok(())
 }
 
-fn print_file(rt: &HostRuntime, name: &str) -> anyhow::Result<()> {
-    let script = fs::read(rt, name)?;
-    print_script(rt, script.as_slice())
-}
-
-fn print_stdin(rt: &HostRuntime) -> anyhow::Result<()> {
-    let mut script = Vec::new(rt.alloc());
-    rt.stdin().read_to_end(&mut script)?;
-    print_script(rt, script.as_slice())
-}
-
-fn run(rt: &HostRuntime) -> anyhow::Result<()> {
-    let mut named = false;
-    for name in env::args(rt)?.skip(1) {
-        named = true;
-        print_file(rt, name.as_str())?;
-    }
-    if named { Ok(()) } else { print_stdin(rt) }
-}
-
 fn main(rt: HostRuntime) -> anyhow::Result<()> {
-    run(&rt)
+    let mut names = env::args(&rt)?.skip(1).peekable();
+    if names.peek().is_none() {
+        let mut script = Vec::new(rt.alloc());
+        rt.stdin().read_to_end(&mut script)?;
+        print_script(&rt, &script)?;
+    }
+    for name in names {
+        print_script(&rt, &fs::read(&rt, &name)?)?;
+    }
+    Ok(())
 }

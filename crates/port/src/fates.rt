@@ -3,7 +3,9 @@
 ghost use Rattle.std.specs.Prelude.{◌≡◌};
 ghost use Rattle.port.specs.Fates.{fate_of};
 
-#[derive(Clone, Copy, Debug)]
+use crate::results::NO_ANSWER;
+
+#[derive(Clone, Copy, Debug, PartialEq, Eq)]
 pub enum Fate {
     // it reaches the device, and the answer reaches the host
     Arrives,
@@ -17,18 +19,18 @@ pub enum Fate {
     Stall,
 }
 
-impl Fate {
-    // A byte, read as a fate. What stands for none is lost with code 14.
-    pub fn read(byte: u8) -> Fate
-        ensures { result ≡ fate_of byte }
-    {
+// A byte, read as a fate. What stands for none is lost with code 14.
+impl From<u8> for Fate {
+    ghost from_gives = { λ byte fate. fate ≡ fate_of byte };
+
+    fn from(byte: u8) -> Fate {
         match byte {
             0x00 => Fate::Arrives,
             0x30 => Fate::Nak,
             0x40 => Fate::Stall,
             0x17..=0x1f => Fate::Lost(byte - 0x10),
             0x27..=0x2f => Fate::Unheard(byte - 0x20),
-            _ => Fate::Lost(14),
+            _ => Fate::Lost(NO_ANSWER),
         }
     }
 }

@@ -1,6 +1,6 @@
 // What the bus keeps of the last setup that a device heard.
 
-#[derive(Clone, Copy, Debug)]
+#[derive(Clone, Copy, Debug, PartialEq, Eq)]
 pub struct Heard {
     // the device address that it went to
     pub address: u8,

@@ -1,40 +1,27 @@
-// Runs scripts, each of which describes a bus with its faults and what is done on it, and prints what came of it. The scripts are
+// Runs scripts without fetch, each of which describes a bus with its faults and what is done on it, and prints what came of it. The scripts are
 // the files named as arguments, each on a bus of its own; with no arguments it is standard input.
 #![tactic(auto)]
 
-mod buses;
-mod calling;
-mod commands;
-mod machines;
-mod preparing;
-mod reading;
-mod running;
-mod showing;
-
+use scripts::Vocabulary;
 use std::io::Read;
 use std::{env, fs};
 
+// Reading files and printing have no contract, so they stand in each program and not in the library.
 fn print_script(rt: &HostRuntime, script: &[u8]) -> anyhow::Result<()> {
-    let out = running::replay(rt.alloc(), script)?;
+    let out = scripts::run(rt.alloc(), script, Vocabulary::WithoutFetch)?;
     print!(rt; "{out}")?;
     Ok(())
 }
 
-fn run(rt: &HostRuntime) -> anyhow::Result<()> {
-    let mut named = false;
-    for name in env::args(rt)?.skip(1) {
-        named = true;
-        let script = fs::read(rt, name.as_str())?;
-        print_script(rt, script.as_slice())?;
-    }
-    if !named {
+fn main(rt: HostRuntime) -> anyhow::Result<()> {
+    let mut names = env::args(&rt)?.skip(1).peekable();
+    if names.peek().is_none() {
         let mut script = Vec::new(rt.alloc());
         rt.stdin().read_to_end(&mut script)?;
-        print_script(rt, script.as_slice())?;
+        print_script(&rt, &script)?;
+    }
+    for name in names {
+        print_script(&rt, &fs::read(&rt, &name)?)?;
     }
     Ok(())
-}
-
-fn main(rt: HostRuntime) -> anyhow::Result<()> {
-    run(&rt)
 }

@@ -1,5 +1,6 @@
 -- A call over a pipe that is there changes its state in the table and leaves where it leads. Assumes nothing.
 use Rattle.std.proofs.Common.{◌≡◌, ℕ, ◌<◌, ◌≤◌, ◌∷◌, length, set, Some, None, sym, ap, ◌∙◌, subst, arith}
+use Rattle.std.proofs.lemmas.Grind.{common_steps}
 use Rattle.std.proofs.lemmas.List.{length-set, get_or-set_same, get_or-set_other}
 use Rattle.port.specs.declared.directions.Direction.{Direction}
 use Rattle.port.specs.declared.directions.Direction.TheVariants.{Out, In}
@@ -19,10 +20,10 @@ use Rattle.service.proofs.Keeps.{Moved, Label}
 
 -- no pipe faces both ways
 pub not_both : Out ≡ In → ⊥
-not_both h = let z : ◌≡◌ {A = ℕ} 0 1 = cc in omega arith
+not_both h = cc
 
 made_same : (p : Pipe) (t : Toggle) (st : Standing) → Made p → Made (with_state p t st)
-made_same p t st m = record { address_most = m.address_most; endpoint_above = m.endpoint_above; endpoint_most = m.endpoint_most; size_above = m.size_above; limit_above = m.limit_above }
+made_same p t st m = grind (arith, common_steps)
 
 module _ (s : State) (past : History) (sound : Sound s past) (n : ℕ) (p : Pipe) (small : n ≤ 7) (there : pipe_at s.places n ≡ Some p) (t : Toggle) (st : Standing) (b' : Bus) where
   abbrev pub changed : State

@@ -1,19 +1,18 @@
 -- Calls that change nothing keep what is sound: those that declined, and looks. Assumes nothing.
-use Rattle.std.proofs.Common.{◌≡◌, ℕ, ◌-◌, ◌*◌, ◌/◌, false, cond, ◌&&◌, eqb, ltb, List, [], ◌∷◌, ◌++◌, length, take, drop, Some, None, Option, sym, refl, ap, ◌∙◌, subst, inl, append-nil, arith}
-use native.Mathlib.Nat.{zero-div}
-use Rattle.std.proofs.lemmas.Bool.{ne_eqb, and_left, and_right, cond_both, false≢true}
+use Rattle.std.proofs.Common.{◌≡◌, ℕ, false, cond, eqb, List, [], ◌∷◌, ◌++◌, Some, None, Option, sym, refl, ap, ◌∙◌, subst, inl, append-nil, arith}
+use Rattle.std.proofs.lemmas.Grind.{common_steps}
+use Rattle.std.proofs.lemmas.Bool.{cond_both}
 use Rattle.port.specs.declared.directions.Direction.TheVariants.{Out}
 use Rattle.pipes.specs.declared.answers.Answer.{Answer}
 use Rattle.pipes.specs.declared.refusals.Refusal.{Refusal}
 use Rattle.pipes.specs.Answers.{declined}
 use Rattle.pipes.specs.Refusals.{refusal_number}
-use Rattle.host.specs.Handing.{cut_packets, handed_over}
+use Rattle.host.specs.Handing.{handed_over}
 use Rattle.host.specs.Effects.{endpoint_at}
-use Rattle.host.proofs.Sent.{succeeded}
-use Rattle.service.specs.Asks.{Ask, open_pipe, send_message, fetch_into, recover_pipe, look_at, close_pipe, answers, brings}
+use Rattle.service.specs.Asks.{Ask, send_message, fetch_into, answers, brings}
 use Rattle.service.specs.Serving.{State}
 use Rattle.service.specs.Histories.{Event, History}
-use Rattle.service.specs.Words.{Lead, succeeds, opens, lead_of, Message, goes_to, message_of, messages_to, asks_renewal, packets_of, by_size}
+use Rattle.service.specs.Words.{Lead, succeeds, lead_of, Message, goes_to, message_of, messages_to, packets_of, by_size}
 use Rattle.service.specs.Laws.{Took, more, SlipsAreTrue}
 use Rattle.service.proofs.Recalls.{Inert, messages_more}
 use Rattle.service.proofs.Sounds.{Sound}
@@ -22,40 +21,20 @@ use Rattle.service.proofs.Keeps.{still_sound, slips_stay}
 
 -- no refusal has the number 0
 pub not_zero : (why : Refusal) → eqb (refusal_number why) 0 ≡ false
-not_zero why = ne_eqb (refusal_number why) 0 (λ z. false≢true (succeeded (Some why) z))
-
-opens_failed : (n : ℕ) (ask : Ask) → opens n ask false ≡ None
-opens_failed n (open_pipe m a e d size limit) = ap (λ t. cond t (Some (record { address = a; endpoint = e; direction = d; size = size })) None) (and_right (eqb m n) false refl)
-opens_failed n (send_message m message) = refl
-opens_failed n (fetch_into m buffer) = refl
-opens_failed n (recover_pipe m) = refl
-opens_failed n (look_at m) = refl
-opens_failed n (close_pipe m) = refl
+not_zero why = grind (arith, common_steps)
 
 -- a call that did not succeed, and brought no packet
 pub inert_failed : (n : ℕ) (e : Event) (past : History) → succeeds e.reply ≡ false → packets_of n e.ask e.reply (lead_of n past) ≡ [] → Inert n e past
-inert_failed n e past failed none =
-    record {
-      unopened = ap (opens n e.ask) failed ∙ opens_failed n e.ask;
-      unrenewed = and_right (asks_renewal n e.ask) (succeeds e.reply) failed;
-      unhanded = none;
-    }
+inert_failed n e past failed none = grind (arith, common_steps)
 
 -- a reply that is not a fetch's brings no packet
 pub no_packets : (n : ℕ) (ask : Ask) (a : Answer) (l : Option Lead) → packets_of n ask (answers a) l ≡ []
-no_packets n (open_pipe m a e d size limit) x l = refl
-no_packets n (send_message m message) x l = refl
-no_packets n (fetch_into m buffer) x l = refl
-no_packets n (recover_pipe m) x l = refl
-no_packets n (look_at m) x l = refl
-no_packets n (close_pipe m) x l = refl
+no_packets n ask a l = grind (arith, common_steps)
 
 -- nor does a fetch that declined
 none_over : (size : ℕ) (why : Refusal) (buffer : List ℕ) → handed_over size (declined why) buffer ≡ []
 unfolding handed_over
-none_over size why buffer =
-    ap (λ k. cut_packets k size buffer ++ cond (eqb (refusal_number why) 0 && ltb 0 (length buffer)) (take (0 - 0 / size * size) (drop (0 / size * size) buffer) ∷ []) []) (zero-div size)
-    ∙ ap (λ t. cond t (take (0 - 0 / size * size) (drop (0 / size * size) buffer) ∷ []) []) (and_left (eqb (refusal_number why) 0) (ltb 0 (length buffer)) (not_zero why))
+none_over size why buffer = grind (arith, common_steps)
 
 by_size_none : (l : Option Lead) (why : Refusal) (buffer : List ℕ) → by_size l (declined why) buffer ≡ []
 by_size_none None why buffer = refl

@@ -1,5 +1,6 @@
 -- No call makes an endpoint or takes one away. Assumes nothing.
-use Rattle.std.proofs.Common.{ℕ, [], ◌∷◌, Ok, Err, Result}
+use Rattle.std.proofs.Common.{arith, ℕ, [], ◌∷◌, Result}
+use Rattle.std.proofs.lemmas.Grind.{common_steps}
 use Rattle.pipes.specs.declared.pipes.Pipe.{Pipe}
 use Rattle.pipes.specs.declared.refusals.Refusal.{Refusal}
 use Rattle.pipes.specs.Checks.{present}
@@ -12,8 +13,7 @@ use Rattle.service.specs.Serving.{State, step, at_the_end}
 use Rattle.service.specs.Laws.{NoEndpointComesOrGoes}
 
 closes : (s : State) (n : ℕ) (r : Result Pipe Refusal) → SameEndpoints s.bus (close_by s.places s.bus n r).bus
-closes s n (Ok p) = same_bus s.bus
-closes s n (Err why) = same_bus s.bus
+closes s n r = grind (arith, common_steps)
 
 step_endpoints : (s : State) (ask : Ask) → SameEndpoints s.bus (step s ask).state.bus
 step_endpoints s (open_pipe n a e d size limit) = reached_named ((tries_are_launches s.places s.bus n).1 a e d size limit)

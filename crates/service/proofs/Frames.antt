@@ -1,8 +1,8 @@
 -- A call at one endpoint leaves pipes that lead elsewhere as they were, in step or level with their devices. Assumes nothing.
-use Rattle.std.proofs.Common.{◌≡◌, ℕ, ◌<◌, ◌&&◌, eqb, ◌∷◌, length, sym, refl, ap, ◌∙◌, subst, arith}
+use Rattle.std.proofs.Common.{◌≡◌, ℕ, ◌<◌, ◌∷◌, length, sym, ap, ◌∙◌, subst, arith}
+use Rattle.std.proofs.lemmas.Grind.{common_steps}
 use Rattle.port.specs.declared.directions.Direction.{Direction}
 use Rattle.port.specs.declared.directions.Direction.TheVariants.{Out, In}
-use Rattle.port.specs.Directions.{facing}
 use Rattle.port.specs.Bus.{Bus}
 use Rattle.pipes.specs.declared.pipes.Pipe.{Pipe}
 use Rattle.host.specs.Laws.{IsInStep}
@@ -15,13 +15,7 @@ use Rattle.service.proofs.Sounds.{source, PipeSound, Away, Distinct}
 
 -- nothing changed at all
 pub untouched : (a n : ℕ) (d : Direction) (b : Bus) → Quiet b → Touched a n d b b
-untouched a n d b q =
-    record {
-      quiet = q;
-      as_many = refl;
-      same_names = λ k. record { same_address = refl; same_number = refl; same_direction = refl };
-      others = λ k ne. refl;
-    }
+untouched a n d b q = grind (arith, common_steps)
 
 module _ (a n : ℕ) (d : Direction) (b b' : Bus) (t : Touched a n d b b') where
   -- places stay
@@ -42,11 +36,7 @@ module _ (a n : ℕ) (d : Direction) (b b' : Bus) (t : Touched a n d b b') where
       (sym here.2 ∙ ap (λ x. x.direction) e ∙ there.2))
 
   pub distinct_stays : Distinct b.devices.endpoints → Distinct b'.devices.endpoints
-  distinct_stays h i j lt within =
-      let x = t.same_names i in
-      let y = t.same_names j in
-      (λ k. eqb (y.same_address k) (x.same_address k) && (eqb (y.same_number k) (x.same_number k) && facing (y.same_direction k) (x.same_direction k)))
-      ∙ h i j lt (omega (arith, t.as_many))
+  distinct_stays h i j lt within = grind (arith, common_steps)
 
   -- an OUT pipe that leads elsewhere stays in step with its device
   step_stays : (p : Pipe) → (p.address ≡ a → p.endpoint ≡ n → Out ≡ d → ⊥) → IsInStep p b → IsInStep p b'

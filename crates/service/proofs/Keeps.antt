@@ -1,6 +1,7 @@
 -- What is sound stays sound: once for a call that changes one pipe and one endpoint at most, and once for a call that changes nothing.
 -- Assumes nothing.
 use Rattle.std.proofs.Common.{◌≡◌, ℕ, ◌≢◌, List, [], ◌∷◌, ◌++◌, length, Some, sym, ap, ◌∙◌, subst, ⊎_elim, arith}
+use Rattle.std.proofs.lemmas.Grind.{common_steps}
 use Rattle.std.proofs.lemmas.Bool.{cases_eq}
 use Rattle.port.specs.declared.directions.Direction.{Direction}
 use Rattle.port.specs.Bus.{Bus}
@@ -101,11 +102,7 @@ module _ (s : State) (past : History) (sound : Sound s past) (e : Event) where
 -- slips after a call that sends nothing and changes no bytes taken
 module _ (a n : ℕ) (d : Direction) (b b' : Bus) (t : Touched a n d b b') where
   pub slips_at : (past : History) (e : Event) (k : ℕ) → ((x y : ℕ) → messages_to x y (e ∷ past) ≡ messages_to x y past) → (endpoint_at b' k).taken ≡ (endpoint_at b k).taken → Took (messages_to (endpoint_at b k).address (endpoint_at b k).number past) (endpoint_at b k).taken → Took (messages_to (endpoint_at b' k).address (endpoint_at b' k).number (e ∷ past)) (endpoint_at b' k).taken
-  slips_at past e k same taken h =
-      let name = t.same_names k in
-      let ms : messages_to (endpoint_at b' k).address (endpoint_at b' k).number (e ∷ past) ≡ messages_to (endpoint_at b k).address (endpoint_at b k).number past =
-      (λ i. messages_to (name.same_address i) (name.same_number i) (e ∷ past)) ∙ same (endpoint_at b k).address (endpoint_at b k).number in
-      subst (λ l. Took l (endpoint_at b' k).taken) (sym ms) (subst (Took (messages_to (endpoint_at b k).address (endpoint_at b k).number past)) (sym taken) h)
+  slips_at past e k same taken h = grind (arith, common_steps)
 
   pub slips_stay : (past : History) (e : Event) → ((x y : ℕ) → message_of x y e.ask e.reply past ≡ []) → ((k : ℕ) → (endpoint_at b' k).taken ≡ (endpoint_at b k).taken) → SlipsAreTrue past b → SlipsAreTrue (e ∷ past) b'
   slips_stay past e none taken h k within out =

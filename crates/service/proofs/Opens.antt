@@ -7,10 +7,10 @@ use Rattle.pipes.specs.declared.pipes.Pipe.{Pipe}
 use Rattle.pipes.specs.declared.refusals.Refusal.{Refusal}
 use Rattle.pipes.specs.Answers.{answered}
 use Rattle.pipes.specs.Checks.{open_refusal}
-use Rattle.pipes.specs.Tables.{pipe_at}
+use Rattle.pipes.specs.Tables.{pipe_at, new_pipe}
 use Rattle.host.specs.Opening.{Requesting, clear_run}
 use Rattle.host.specs.Sending.{none_yet}
-use Rattle.host.specs.Calls.{done, new_pipe, opened, open_by}
+use Rattle.host.specs.Calls.{done, opened, open_by}
 use Rattle.host.specs.Effects.{Requested}
 use Rattle.host.proofs.Admits.{Openable, open_passed, none_leads}
 use Rattle.host.proofs.Requests.{requests_clear_one_endpoint}
@@ -30,7 +30,7 @@ module _ (s : State) (past : History) (sound : Sound s past) (n a e : ℕ) (d : 
 
   module _ (ok : Openable s.places n a e d size limit) (r : Requesting) (h : Requested a e d s.bus r) (tries last : ℕ) where
     -- the request stopped, or went through
-    ended : (stop : Option Refusal) → (stop ≡ None → none_yet r.clearing.stop ≡ true) → Good (stepped (done (answered stop 0 0 tries last) (opened s.places s.bus n (new_pipe a e d size limit) stop) r.bus))
+    ended : (stop : Option Refusal) → (stop ≡ None → none_yet r.clearing.tally.stop ≡ true) → Good (stepped (done (answered stop 0 0 tries last) (opened s.places s.bus n (new_pipe a e d size limit) stop) r.bus))
     ended (Some why) went =
         let s' = state s.places r.bus in
         let ev = event (open_pipe n a e d size limit) (answers (answered (Some why) 0 0 tries last)) s' in
@@ -43,8 +43,8 @@ module _ (s : State) (past : History) (sound : Sound s past) (n a e : ℕ) (d : 
           alone = λ j q ne there. none_leads a e d s.places ok.alone j q there;
           same_places = λ j ne. refl;
           long = refl;
-          mine = λ q there. let f = ok.free in let z : ◌≡◌ {A = ℕ} 0 1 = cc in absurd (omega arith);
-          mine_apart = λ j q q' ne there _. let f = ok.free in let z : ◌≡◌ {A = ℕ} 0 1 = cc in absurd (omega arith);
+          mine = λ q there. let f = ok.free in cc;
+          mine_apart = λ j q q' ne there _. let f = ok.free in cc;
           slips = slips_stay a e d s.bus r.bus h.touched past ev (λ x y. refl) h.same_taken sound.slips;
           label = label_same n ev past (inert_failed n ev past (not_zero why) refl) (sound.labels n);
         })
@@ -79,4 +79,4 @@ module _ (s : State) (past : History) (sound : Sound s past) (n a e : ℕ) (d : 
   open_sound None is =
       let ok = open_passed s.places n a e d size limit is in
       let q = clear_run a e d limit s.bus in
-      ended ok q (requests_clear_one_endpoint a e d limit s.bus ok.made.address_most ok.made.endpoint_above ok.made.endpoint_most ok.made.limit_above sound.quiet) q.clearing.tries q.clearing.last q.clearing.stop (λ none. ap none_yet none)
+      ended ok q (requests_clear_one_endpoint a e d limit s.bus ok.made.address_most ok.made.endpoint_above ok.made.endpoint_most ok.made.limit_above sound.quiet) q.clearing.tally.tries q.clearing.tally.last q.clearing.tally.stop (λ none. ap none_yet none)

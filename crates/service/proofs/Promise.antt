@@ -1,8 +1,8 @@
 -- The promise over every list of calls: what is sound at first stays sound, and the laws hold after each call. Assumes nothing.
-use Rattle.std.proofs.Common.{◌≡◌, ℕ, zero, suc, ◌≤◌, List, [], ◌∷◌, ◌++◌, length, take, None, sym, refl, ap, ◌∙◌, subst, ⊎_elim, arith}
+use Rattle.std.proofs.Common.{◌≡◌, ℕ, zero, suc, ◌≤◌, List, [], ◌∷◌, ◌++◌, length, take, None, sym, refl, ap, ◌∙◌, subst, arith}
+use Rattle.std.proofs.lemmas.Grind.{common_steps}
 use Rattle.std.proofs.ByRecursion.{All-get_or}
-use Rattle.std.proofs.lemmas.List.{get_or-replicate, get_or_past, take_all}
-use Rattle.std.proofs.lemmas.Bool.{cases_lt}
+use Rattle.std.proofs.lemmas.List.{take_all}
 use Rattle.port.specs.Endpoints.{nowhere, FreshEndpoint}
 use Rattle.port.specs.Bus.{Bus, Fresh}
 use Rattle.pipes.specs.Tables.{pipe_at, unused}
@@ -34,9 +34,7 @@ step_sound s past sound (look_at n) =
 step_sound s past sound (close_pipe n) = close_sound s past sound n (present s.places n) refl
 
 none_there : (n : ℕ) → pipe_at unused n ≡ None
-none_there n =
-    let l : length unused ≡ 8 = refl in
-    ⊎_elim (λ lt. get_or-replicate 8 n None None lt) (λ le. get_or_past unused n None (omega arith)) (cases_lt n 8)
+none_there n = grind (arith, common_steps)
 
 -- an unused host on a fresh port
 pub fresh_sound : (b : Bus) → Fresh b → Sound (state unused b) []
@@ -46,8 +44,8 @@ fresh_sound b fresh =
       quiet = record { no_sending = ap (λ c. c.sending) fresh.chip_fresh; no_setup = ap (λ c. c.setup) fresh.chip_fresh; none_received = ap (λ c. c.received) fresh.chip_fresh };
       wide = (let l : length unused ≡ 8 = refl in omega arith);
       distinct = fresh.endpoints_formed.distinct;
-      apart = λ i j p q ne there _. let none = none_there i in let z : ◌≡◌ {A = ℕ} 0 1 = cc in absurd (omega arith);
-      pipes = λ n p there. let none = none_there n in let z : ◌≡◌ {A = ℕ} 0 1 = cc in absurd (omega arith);
+      apart = λ i j p q ne there _. let none = none_there i in cc;
+      pipes = λ n p there. let none = none_there n in cc;
       slips = λ k within out. subst (Took []) (sym (All-get_or FreshEndpoint b.devices.endpoints k nowhere within fresh.endpoints_fresh)) nothing;
       labels = λ n. ([], refl);
     }
@@ -94,8 +92,7 @@ whole b asks fresh =
     (promised s asks (replies s asks) refl refl fresh (length asks) (omega arith))
 
 slip_part : (past : History) → Laws past → SlipsAfter past
-slip_part [] laws = tt
-slip_part (e ∷ past) laws = laws.slips
+slip_part past h = grind (arith, common_steps)
 
 label_part : (past : History) → Laws past → LabelsAreTrue past
 unfolding handed_since waited_since
@@ -103,8 +100,7 @@ label_part [] laws n = ([], refl)
 label_part (e ∷ past) laws n = laws.labels n
 
 toggle_part : (past : History) → Laws past → TogglesAfter past
-toggle_part [] laws = tt
-toggle_part (e ∷ past) laws = laws.toggles
+toggle_part past h = grind (arith, common_steps)
 
 pub every_slip_is_true : EverySlipIsTrue
 every_slip_is_true b asks fresh = slip_part (story b asks) (whole b asks fresh)

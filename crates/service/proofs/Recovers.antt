@@ -1,5 +1,5 @@
 -- A recover keeps what is sound. Assumes nothing.
-use Rattle.std.proofs.Common.{◌≡◌, ℕ, ◌≤◌, true, ◌&&◌, ◌∷◌, set, Some, None, Ok, Err, Option, Result, refl, ap, ◌∙◌, arith}
+use Rattle.std.proofs.Common.{◌≡◌, ℕ, ◌≤◌, true, ◌&&◌, ◌∷◌, set, Some, None, Ok, Err, Option, Result, refl, ap, ◌∙◌}
 use Rattle.std.proofs.lemmas.Bool.{eq-eqb}
 use Rattle.port.specs.declared.toggles.Toggle.TheVariants.{Data0}
 use Rattle.pipes.specs.declared.pipes.Pipe.{Pipe}
@@ -27,14 +27,14 @@ use Rattle.service.proofs.Renewals.{renewed_label, renewed_sound}
 use Rattle.service.proofs.Changes.{made_still, changed_moved}
 
 not_doubtful : Doubtful ≡ InStep → ⊥
-not_doubtful h = let z : ◌≡◌ {A = ℕ} 0 1 = cc in omega arith
+not_doubtful h = cc
 
 module _ (s : State) (past : History) (sound : Sound s past) (n : ℕ) where
   abbrev Good : Step → Type 0
   Good x = Sound x.state (event (recover_pipe n) x.reply x.state ∷ past)
 
   module _ (p : Pipe) (small : n ≤ 7) (there : pipe_at s.places n ≡ Some p) (r : Requesting) (h : Requested p.address p.endpoint p.direction s.bus r) (tries last : ℕ) where
-    ended : (stop : Option Refusal) → (stop ≡ None → none_yet r.clearing.stop ≡ true) → Good (stepped (done (answered stop 0 0 tries last) (set s.places n (Some (recovered s.places s.bus n p stop))) r.bus))
+    ended : (stop : Option Refusal) → (stop ≡ None → none_yet r.clearing.tally.stop ≡ true) → Good (stepped (done (answered stop 0 0 tries last) (set s.places n (Some (recovered s.places s.bus n p stop))) r.bus))
     ended (Some why) went =
         let s' = state (set s.places n (Some (with_state p p.toggle Doubtful))) r.bus in
         let e = event (recover_pipe n) (answers (answered (Some why) 0 0 tries last)) s' in
@@ -67,4 +67,4 @@ module _ (s : State) (past : History) (sound : Sound s past) (n : ℕ) where
       let at = recover_admits s.places n p is in
       let made = (sound.pipes n p at.1).made in
       let q = clear_run p.address p.endpoint p.direction p.limit s.bus in
-      ended p at.0 at.1 q (requests_clear_one_endpoint p.address p.endpoint p.direction p.limit s.bus made.address_most made.endpoint_above made.endpoint_most made.limit_above sound.quiet) q.clearing.tries q.clearing.last q.clearing.stop (λ none. ap none_yet none)
+      ended p at.0 at.1 q (requests_clear_one_endpoint p.address p.endpoint p.direction p.limit s.bus made.address_most made.endpoint_above made.endpoint_most made.limit_above sound.quiet) q.clearing.tally.tries q.clearing.tally.last q.clearing.tally.stop (λ none. ap none_yet none)

@@ -1,52 +1,18 @@
 -- What the worked runs need besides computing: that their buses are fresh, and what a run cannot have been. Assumes nothing.
-use Rattle.std.proofs.Common.{◌≡◌, ℕ, ◌+◌, ◌⊎◌, List, [], ◌∷◌, ◌++◌, length, get_or, take, Some, None, refl, ap, ◌∙◌, ⊎_elim, arith}
-use Rattle.port.specs.Endpoints.{Endpoint, InRange}
+use Rattle.std.proofs.Common.{◌≡◌, ℕ, ◌+◌, ◌⊎◌, List, [], ◌∷◌, ◌++◌, length, get_or, take, Some, None, ap, ◌∙◌, ⊎_elim, arith}
+use Rattle.std.proofs.lemmas.Grind.{common_steps}
 use Rattle.port.specs.Bus.{Fresh}
 use Rattle.pipes.specs.declared.refusals.Refusal.TheVariants.{ThirdMiss}
 use Rattle.pipes.specs.Answers.{answered}
 use Rattle.service.specs.Words.{Message}
-use Rattle.service.specs.Laws.{Took, nothing, more}
+use Rattle.service.specs.Laws.{Took}
 use Rattle.service.specs.Runs.{bus_of, printer, pad, slip, next_slip}
 
--- one endpoint alone, in range and with nothing taken
-pub alone_fresh : (e : Endpoint) (fates : List ℕ) → InRange e → e.taken ≡ [] → Fresh (bus_of e fates)
-alone_fresh e fates range none =
-    record {
-      chip_fresh = refl;
-      endpoints_formed = record { each = (range, tt); distinct = λ i j lt within. absurd (omega arith) };
-      endpoints_fresh = (none, tt);
-      none_heard = refl;
-    }
-
 pub printer_fresh : (fates : List ℕ) → Fresh (bus_of printer fates)
-printer_fresh fates =
-    alone_fresh printer fates
-    (record {
-      address_above = omega arith;
-      address_most = omega arith;
-      number_above = omega arith;
-      number_most = omega arith;
-      capacity_most = omega arith;
-      taken_most = omega arith;
-      packets_most = omega arith;
-      packet_most = tt;
-    })
-    refl
+printer_fresh fates = grind (arith, common_steps)
 
 pub pad_fresh : (fates : List ℕ) → Fresh (bus_of pad fates)
-pad_fresh fates =
-    alone_fresh pad fates
-    (record {
-      address_above = omega arith;
-      address_most = omega arith;
-      number_above = omega arith;
-      number_most = omega arith;
-      capacity_most = omega arith;
-      taken_most = omega arith;
-      packets_most = omega arith;
-      packet_most = (omega arith, (omega arith, tt));
-    })
-    refl
+pad_fresh fates = grind (arith, common_steps)
 
 -- what was taken of a list of messages, one message back
 Back : List Message → List ℕ → Type 0
@@ -55,8 +21,7 @@ Back (m ∷ ms) bytes = (n : ℕ) × (before : List ℕ) × ((n ≡ m.answer.sen
 
 back : {ms : List Message} {bytes : List ℕ} → Took ms bytes → Back ms bytes
 unfolding Back
-back nothing = refl
-back (more {bytes = before} m n which most h) = (n, before, which, refl, h)
+back h = grind (arith, common_steps)
 
 -- eight bytes of the first slip are not what is taken of both slips, if all of the second was sent
 pub not_taken : Took (record { bytes = next_slip; answer = answered None 8 0 1 0 } ∷ record { bytes = slip; answer = answered (Some ThirdMiss) 0 8 3 14 } ∷ []) (take 8 slip) → ⊥

@@ -1,8 +1,9 @@
 -- A call and what came of it as plain values: numbers and lists of bytes, whatever memory holds them. Assumes nothing.
-use Rattle.std.specs.Prelude.{ℕ, List, vec_items}
+use Rattle.std.specs.Prelude.{ℕ, List, Result, vec_items}
 use Rattle.port.specs.declared.directions.Direction.{Direction}
 use Rattle.pipes.specs.declared.answers.Answer.{Answer}
 use Rattle.pipes.specs.declared.answers.Looked.{Looked}
+use Rattle.pipes.specs.declared.refusals.Refusal.{Refusal}
 use Rattle.service.specs.declared.calls.Call.{Call}
 use Rattle.service.specs.declared.calls.Call.TheVariants as call
 use Rattle.service.specs.declared.calls.Outcome.{Outcome}
@@ -17,14 +18,14 @@ pub data Ask : Type 0 where
   look_at : (pipe : ℕ) → Ask
   close_pipe : (pipe : ℕ) → Ask
 
--- what it replies: an answer; of a fetch with the buffer afterwards; of a look what it shows
+-- what it replies: an answer; of a fetch with the buffer afterwards; of a look what it shows, or why it shows nothing
 pub data Reply : Type 0 where
   answers : Answer → Reply
   brings : Answer → List ℕ → Reply
-  shows : Looked → Reply
+  shows : Result Looked Refusal → Reply
 
 abbrev pub asked : Call → Ask
-asked (call.Open n a e d s l) = open_pipe n a e d s l
+asked (call.Open n plan) = open_pipe n plan.address plan.endpoint plan.direction plan.size plan.limit
 asked (call.Send n m) = send_message n (vec_items m)
 asked (call.Fetch n b) = fetch_into n (vec_items b)
 asked (call.Recover n) = recover_pipe n

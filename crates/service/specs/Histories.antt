@@ -1,7 +1,8 @@
 -- A history: the calls of a list with the reply to each, and what there was to see after each. Assumes nothing.
-use Rattle.std.specs.Prelude.{ℕ, List, [], ◌∷◌}
+use Rattle.std.specs.Prelude.{ℕ, List, [], ◌∷◌, Result}
 use Rattle.port.specs.Bus.{Bus}
 use Rattle.pipes.specs.declared.answers.Looked.{Looked}
+use Rattle.pipes.specs.declared.refusals.Refusal.{Refusal}
 use Rattle.host.specs.Calls.{look_answer}
 use Rattle.service.specs.Asks.{Ask, Reply}
 use Rattle.service.specs.Serving.{State, step}
@@ -10,7 +11,7 @@ use Rattle.service.specs.Serving.{State, step}
 pub record Event : Type 0 where
   pub ask : Ask
   pub reply : Reply
-  pub shown : ℕ → Looked
+  pub shown : ℕ → Result Looked Refusal
   pub bus : Bus
 
 -- the latest call comes first

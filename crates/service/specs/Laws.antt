@@ -1,11 +1,13 @@
 -- The promise over every list of calls: three laws that hold after each call, whatever the calls and the faults. They speak of the history
 -- and the bus. Assumes nothing.
-use Rattle.std.specs.Prelude.{◌≡◌, ℕ, ◌+◌, ◌-◌, ◌<◌, ◌≤◌, ◌⊎◌, List, [], ◌∷◌, ◌++◌, length, take, drop, Some}
+use Rattle.std.specs.Prelude.{◌≡◌, ℕ, ◌+◌, ◌-◌, ◌<◌, ◌≤◌, ◌⊎◌, List, [], ◌∷◌, ◌++◌, length, take, drop, Some, Ok}
 use Rattle.port.specs.declared.directions.Direction.{Direction}
 use Rattle.port.specs.declared.directions.Direction.TheVariants.{Out, In}
-use Rattle.port.specs.Toggles.{flip, bit}
+use Rattle.port.specs.declared.toggles.Toggle.{Toggle}
+use Rattle.port.specs.Toggles.{flip}
 use Rattle.port.specs.Bus.{Bus, Fresh}
 use Rattle.pipes.specs.declared.pipes.Standing.TheVariants.{InStep}
+use Rattle.pipes.specs.Answers.{looked_at}
 use Rattle.pipes.specs.Tables.{unused}
 use Rattle.host.specs.Effects.{endpoint_at, SameEndpoints}
 use Rattle.service.specs.Asks.{Ask, Reply}
@@ -38,21 +40,21 @@ GoneOn pipe l past b = (device_of l b).waiting ≡ drop (length (handed_since pi
 
 -- the toggle that is shown of a pipe, beside its device. An OUT pipe has its device's toggle. An IN pipe has the other one exactly when the
 -- device still holds the last packet handed over
-abbrev pub ToggleBeside : Direction → ℕ → Lead → History → Bus → ℕ → Type 0
-ToggleBeside Out pipe l past b shown = shown ≡ bit (device_of l b).toggle
+abbrev pub ToggleBeside : Direction → ℕ → Lead → History → Bus → Toggle → Type 0
+ToggleBeside Out pipe l past b shown = shown ≡ (device_of l b).toggle
 ToggleBeside In pipe l past b shown =
-    (StillHolds pipe l past b × (shown ≡ bit (flip (device_of l b).toggle)))
-    ⊎ ((StillHolds pipe l past b → ⊥) × GoneOn pipe l past b × (shown ≡ bit (device_of l b).toggle))
+    (StillHolds pipe l past b × (shown ≡ flip (device_of l b).toggle))
+    ⊎ ((StillHolds pipe l past b → ⊥) × GoneOn pipe l past b × (shown ≡ (device_of l b).toggle))
 
 -- the toggle law: a pipe that is shown in step was opened, its device endpoint is there, and its toggle is as above
-pub record IsInStepWith (pipe : ℕ) (e : Event) (past : History) : Type 0 where
+pub record IsInStepWith (pipe : ℕ) (shown : Toggle) (e : Event) (past : History) : Type 0 where
   pub lead : Lead
   pub leads : lead_of pipe past ≡ Some lead
   pub there : place_of lead e.bus < length e.bus.devices.endpoints
-  pub beside : ToggleBeside lead.direction pipe lead past e.bus (e.shown pipe).toggle
+  pub beside : ToggleBeside lead.direction pipe lead past e.bus shown
 
 abbrev pub TogglesShownAreTrue : Event → History → Type 0
-TogglesShownAreTrue e past = (pipe : ℕ) → (e.shown pipe).standing ≡ Some InStep → IsInStepWith pipe e past
+TogglesShownAreTrue e past = (pipe : ℕ) (shown : Toggle) → e.shown pipe ≡ Ok (looked_at InStep shown) → IsInStepWith pipe shown e past
 
 -- the three laws after the latest call of a history
 pub record LawsAfter (e : Event) (past : History) : Type 0 where

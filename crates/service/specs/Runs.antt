@@ -1,6 +1,6 @@
 -- Worked runs, which show that the laws say something. A printer at address 5, endpoint 2, and a tag pad at address 9, endpoint 1, each
 -- alone on its bus, with packet size 8 and NAK limit 3. Assumes nothing.
-use Rattle.std.specs.Prelude.{◌≡◌, ℕ, false, List, [], ◌∷◌, ◌++◌, take, replicate, Some, None}
+use Rattle.std.specs.Prelude.{◌≡◌, ℕ, false, List, [], ◌∷◌, ◌++◌, take, replicate, Some, None, Ok}
 use Rattle.port.specs.declared.directions.Direction.TheVariants.{Out, In}
 use Rattle.port.specs.declared.toggles.Toggle.TheVariants.{Data0, Data1}
 use Rattle.port.specs.Chip.{fresh_chip}
@@ -104,7 +104,7 @@ abbrev pub StillHeldAndNotTwice : Type 0
 StillHeldAndNotTwice =
     Fresh unacknowledged
     × StillHolds 1 pad_lead (story unacknowledged one_fetch) (ends_with unacknowledged one_fetch).bus
-    × (look_answer (ends_with unacknowledged one_fetch).places 1 ≡ looked_at InStep Data1)
+    × (look_answer (ends_with unacknowledged one_fetch).places 1 ≡ Ok (looked_at InStep Data1))
     × ((endpoint_at (ends_with unacknowledged one_fetch).bus 0).toggle ≡ Data0)
     × (replies_of unacknowledged two_fetches ≡ answers (answered None 0 0 2 0) ∷ brings (fetched None 8 1 0) first_packet ∷ brings (fetched None 3 2 0) (second_packet ++ replicate 5 0) ∷ [])
 

@@ -1,45 +1,25 @@
 // A call to the host, and what came of it.
-use host::{Answer, Looked};
-use port::Direction;
+use host::{Answer, Looked, PipePlan, Refusal};
 
 // One of the six calls, with its numbers, its message or its buffer.
-#[derive(Drop)]
+#[derive(Debug, PartialEq, Eq, Drop)]
 pub enum Call {
-    Open {
-        number: u8,
-        address: u8,
-        endpoint: u8,
-        direction: Direction,
-        size: u8,
-        limit: u8,
-    },
-    Send {
-        number: u8,
-        message: Vec<u8>,
-    },
+    Open { number: u8, plan: PipePlan },
+    Send { number: u8, message: Vec<u8> },
     // the buffer is handed in, and back in the outcome
-    Fetch {
-        number: u8,
-        buffer: Vec<u8>,
-    },
-    Recover {
-        number: u8,
-    },
-    Look {
-        number: u8,
-    },
-    Close {
-        number: u8,
-    },
+    Fetch { number: u8, buffer: Vec<u8> },
+    Recover { number: u8 },
+    Look { number: u8 },
+    Close { number: u8 },
 }
 
 // What came of a call.
-#[derive(Drop)]
+#[derive(Debug, PartialEq, Eq, Drop)]
 pub enum Outcome {
     // of open, send, recover and close
     Answered(Answer),
     // of fetch, with the buffer afterwards
     Fetched(Answer, Vec<u8>),
     // of look
-    Shown(Looked),
+    Shown(Result<Looked, Refusal>),
 }

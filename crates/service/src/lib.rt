@@ -7,4 +7,5 @@ pub mod laws;
 mod serving;
 
 pub use calls::{Call, Outcome};
-pub use serving::{serve, serve_into};
+pub use host::{Answer, Host, Looked, PipePlan, Refusal, Standing};
+pub use serving::{NoRoom, serve, serve_into};

@@ -1,5 +1,5 @@
 // Serving: every call of a list is made, in order, refused ones included.
-ghost use Rattle.std.specs.Prelude.{◌≡◌, ◌+◌, ◌-◌, ◌<◌, true, false, [], ◌∷◌, ◌++◌, map, IfOk, vec_len, vec_capacity, MatchResult, nat_le};
+ghost use Rattle.std.specs.Prelude.{◌≡◌, ◌+◌, ◌-◌, ◌<◌, [], ◌∷◌, ◌++◌, map, is_ok, IfOk, Some, codes, vec_len, vec_capacity, MatchResult, nat_le};
 ghost use Rattle.service.specs.Asks.{asked, replied};
 ghost use Rattle.service.specs.Serving.{state, step, ServedBehind, Served};
 ghost use Rattle.service.specs.Laws.{Promised, PromisedOnward};
@@ -8,6 +8,22 @@ use crate::calls::{Call, Outcome};
 use host::Host;
 use port::Port;
 use std::alloc::{AllocError, Global};
+use std::error::Error;
+use std::fmt;
+
+// The outcomes have no room for what comes of all calls.
+#[derive(Clone, Copy, Debug, PartialEq, Eq)]
+pub struct NoRoom;
+
+impl fmt::Display for NoRoom {
+    ghost output = { λ _. Some (codes "no room for what comes of all calls") };
+
+    fn fmt<W: fmt::Write>(&self, f: &mut fmt::Formatter<W>) -> fmt::Result {
+        write!(f, "no room for what comes of all calls")
+    }
+}
+
+impl Error for NoRoom {}
 
 // Makes one call.
 fn make<P: Port>(host: &mut Host<P>, call: Call) -> Outcome
@@ -16,14 +32,7 @@ fn make<P: Port>(host: &mut Host<P>, call: Call) -> Outcome
     ensures after { P.meaning host.new.port ≡ (step (state host.old.table.pipes (P.meaning host.old.port)) (asked call)).state.bus }
 {
     match call {
-        Call::Open {
-            number,
-            address,
-            endpoint,
-            direction,
-            size,
-            limit,
-        } => Outcome::Answered(host.open(number, address, endpoint, direction, size, limit)),
+        Call::Open { number, plan } => Outcome::Answered(host.open(number, plan)),
         Call::Send { number, message } => Outcome::Answered(host.send(number, &message)),
         Call::Fetch { number, mut buffer } => {
             let answer = host.fetch(number, &mut buffer);
@@ -49,24 +58,22 @@ fn serve_next<P: Port>(host: &mut Host<P>, call: Call, outcomes: &mut Vec<Outcom
 }
 
 // Makes all calls, in order, and adds what came of each to the outcomes, if these have room for all of it; else no call is made and nothing
-// is touched. Answers whether it did. What came of each call, and the host afterwards, are what the definitions give from the host as it was
-// and the calls alone.
+// is touched. What came of each call, and the host afterwards, are what the definitions give from the host as it was and the calls alone.
 pub fn serve_into<P: Port>(
     host: &mut Host<P>,
     calls: Vec<Call>,
     outcomes: &mut Vec<Outcome>,
-) -> bool
-    ensures room { result ≡ nat_le (vec_len calls) (vec_capacity outcomes.old - vec_len outcomes.old) }
-    ensures served { result ≡ true → ServedBehind (map replied outcomes.old.items) (state host.old.table.pipes (P.meaning host.old.port)) (map asked calls.items) (map replied outcomes.new.items) (state host.new.table.pipes (P.meaning host.new.port)) }
-    ensures same { result ≡ false → (host.new ≡ host.old) × (outcomes.new ≡ outcomes.old) }
+) -> Result<(), NoRoom>
+    ensures room { is_ok result ≡ nat_le (vec_len calls) (vec_capacity outcomes.old - vec_len outcomes.old) }
+    ensures served { MatchResult result (λ _. ServedBehind (map replied outcomes.old.items) (state host.old.table.pipes (P.meaning host.old.port)) (map asked calls.items) (map replied outcomes.new.items) (state host.new.table.pipes (P.meaning host.new.port))) (λ _. (host.new ≡ host.old) × (outcomes.new ≡ outcomes.old)) }
 {
     if calls.len() > outcomes.capacity() - outcomes.len() {
-        return false;
+        return Err(NoRoom);
     }
     for call in calls {
         serve_next(host, call, outcomes);
     }
-    true
+    Ok(())
 }
 
 // Makes all calls, and gives back what came of each. Memory for that is reserved before the first call: where it is wanting, no call is
@@ -75,14 +82,15 @@ pub fn serve_into<P: Port>(
 // call. They hold as well, of all calls together, where such a host has served other lists before.
 pub fn serve<P: Port>(
     host: &mut Host<P>,
-    heap: Global,
+    alloc: Global,
     calls: Vec<Call>,
 ) -> Result<Vec<Outcome>, AllocError>
     ensures served { MatchResult result (λ outcomes. Served (state host.old.table.pipes (P.meaning host.old.port)) (map asked calls.items) (map replied outcomes.items) (state host.new.table.pipes (P.meaning host.new.port))) (λ _. host.new ≡ host.old) }
     ensures promise { IfOk result (λ outcomes. Promised (state host.old.table.pipes (P.meaning host.old.port)) (map asked calls.items) (map replied outcomes.items)) }
     ensures onward { IfOk result (λ outcomes. PromisedOnward (state host.old.table.pipes (P.meaning host.old.port)) (map asked calls.items) (map replied outcomes.items)) }
 {
-    let mut outcomes = Vec::with_capacity(heap, calls.len())?;
+    let mut outcomes = Vec::with_capacity(alloc, calls.len())?;
+    // there is room: it was reserved
     let _ = serve_into(host, calls, &mut outcomes);
     Ok(outcomes)
 }

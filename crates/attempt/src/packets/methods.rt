@@ -10,7 +10,7 @@ impl<'a> Packet<'a> {
     {
         let length = size.min(PACKET_MOST).min(message.len());
         Packet {
-            bytes: &message[0..length],
+            bytes: &message[..length],
         }
     }
 

@@ -1,12 +1,12 @@
 // Adding endpoints and packets to the devices of a bench.
-ghost use Rattle.std.specs.Prelude.{◌≡◌, ◌<◌, true, ◌&&◌, length, MatchResult, slice_index_or};
-ghost use Rattle.port.specs.Endpoints.{nowhere};
+ghost use Rattle.std.specs.Prelude.{◌≡◌, true, false, ◌&&◌, MatchOption, MatchResult};
 ghost use Rattle.devices.specs.Devices.{devices_of, endpoints_of};
 ghost use Rattle.devices.specs.Setups.{Adds, planned, in_range, vacant, more_endpoints, packet_fits, packet_place, more_packets};
 
 use super::Devices;
 use crate::endpoints::DeviceEndpoint;
 use crate::plans::{EndpointPlan, SetupError};
+use crate::spots::Spot;
 use port::Direction;
 use port::registers::PACKET_MOST;
 use std::alloc::AllocError;
@@ -20,35 +20,18 @@ const PACKETS_MOST: usize = 16;
 fn in_range(plan: EndpointPlan) -> bool
     ensures { result ≡ in_range plan }
 {
-    1 <= plan.address
-        && plan.address <= 127
-        && 1 <= plan.number
-        && plan.number <= 15
+    (1..=127).contains(&plan.address)
+        && (1..=15).contains(&plan.number)
         && plan.toggle <= 1
         && plan.capacity <= 4096
 }
 
 impl Devices {
-    fn count(&self) -> usize
-        ensures { result ≡ length (endpoints_of self.now) }
-    {
-        self.endpoints.len()
-    }
-
-    // How many packets wait at the endpoint of this place.
-    fn waiting_at(&self, i: usize) -> usize
-        requires { i < length (endpoints_of self.now) }
-        ensures { result ≡ length (slice_index_or (endpoints_of self.now) i nowhere).waiting }
-    {
-        self.endpoints[i].packets()
-    }
-
     // Whether there is room for one endpoint more, and none at the plan's place yet.
     fn vacant(&self, plan: EndpointPlan) -> bool
         ensures { result ≡ vacant plan (endpoints_of self.now) }
     {
-        let count = self.count();
-        count < ENDPOINTS_MOST && count <= self.place(plan.address, plan.number, plan.direction)
+        self.endpoints.len() < ENDPOINTS_MOST && self.place(plan.spot()).is_none()
     }
 
     // Whether the plan is in range, and its place vacant.
@@ -66,20 +49,16 @@ impl Devices {
         Ok(())
     }
 
-    // Whether the packet fits and the endpoint that it is for is there and has room for it.
-    fn admits_packet(&self, address: u8, number: u8, bytes: &[u8]) -> bool
-        ensures { result ≡ packet_fits address number bytes.now (devices_of self.now) }
+    // The place of the endpoint that the packet is for, if the packet fits and the endpoint is there and has room for it.
+    fn packet_place(&self, address: u8, number: u8, bytes: &[u8]) -> Option<usize>
+        ensures { MatchOption result (packet_fits address number bytes.now (devices_of self.now) ≡ false) (λ i. (packet_fits address number bytes.now (devices_of self.now) ≡ true) × (i ≡ packet_place address number (devices_of self.now))) }
     {
-        let i = self.place(address, number, Direction::In);
-        bytes.len() <= PACKET_MOST && i < self.count() && self.waiting_at(i) < PACKETS_MOST
-    }
-
-    fn push_packet(&mut self, address: u8, number: u8, bytes: &[u8]) -> Result<(), AllocError>
-        requires { packet_fits address number bytes.now (devices_of self.old) ≡ true }
-        ensures { MatchResult result (λ _. devices_of self.new ≡ more_packets (packet_place address number (devices_of self.old)) bytes.now (devices_of self.old)) (λ _. devices_of self.new ≡ devices_of self.old) }
-    {
-        let i = self.place(address, number, Direction::In);
-        self.endpoints[i].add_packet(bytes)
+        let i = self.place(Spot::new(address, number, Direction::In))?;
+        if bytes.len() <= PACKET_MOST && self.endpoints[i].packets() < PACKETS_MOST {
+            Some(i)
+        } else {
+            None
+        }
     }
 
     // One endpoint more.
@@ -89,22 +68,19 @@ impl Devices {
         if !self.admits(plan) {
             return Err(SetupError::Refused);
         }
-        match self.push_endpoint(plan) {
-            Ok(()) => Ok(()),
-            Err(_) => Err(SetupError::NoMemory),
-        }
+        self.push_endpoint(plan)?;
+        Ok(())
     }
 
     // One packet more that waits at an IN endpoint.
+    #[tactic(auto, using(crate::proofs::Rows::rows))]
     pub fn add_packet(&mut self, address: u8, number: u8, bytes: &[u8]) -> Result<(), SetupError>
         ensures { Adds (packet_fits address number bytes.now (devices_of self.old)) (more_packets (packet_place address number (devices_of self.old)) bytes.now (devices_of self.old)) self.old result self.new }
     {
-        if !self.admits_packet(address, number, bytes) {
+        let Some(i) = self.packet_place(address, number, bytes) else {
             return Err(SetupError::Refused);
-        }
-        match self.push_packet(address, number, bytes) {
-            Ok(()) => Ok(()),
-            Err(_) => Err(SetupError::NoMemory),
-        }
+        };
+        self.endpoints[i].add_packet(bytes)?;
+        Ok(())
     }
 }

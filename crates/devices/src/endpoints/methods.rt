@@ -10,24 +10,24 @@ ghost use Rattle.devices.specs.Setups.{planned, more_waiting};
 use super::DeviceEndpoint;
 use crate::packets::Packet;
 use crate::plans::EndpointPlan;
+use crate::spots::Spot;
 use parts::{Inbox, Room};
-use port::{Direction, Fate, Toggle};
+use port::results::{NAK, STALL, SUCCESS, WRONG_TOGGLE};
+use port::{Fate, Toggle};
 use std::alloc::{AllocError, Global};
 use std::collections::VecDeque;
 
 impl DeviceEndpoint {
-    pub(crate) fn new(heap: Global, plan: EndpointPlan) -> Result<DeviceEndpoint, AllocError>
+    pub(crate) fn new(alloc: Global, plan: EndpointPlan) -> Result<DeviceEndpoint, AllocError>
         ensures { IfOk result (λ e. endpoint_of e ≡ planned plan) }
     {
-        let taken = Room::new(heap, plan.capacity as usize)?;
+        let taken = Room::new(alloc, usize::from(plan.capacity))?;
         Ok(DeviceEndpoint {
-            address: plan.address,
-            number: plan.number,
-            direction: plan.direction,
-            toggle: Toggle::from_number(plan.toggle),
+            spot: plan.spot(),
+            toggle: Toggle::from(plan.toggle),
             halted: plan.halted,
             taken,
-            waiting: VecDeque::new(heap),
+            waiting: VecDeque::new(alloc),
         })
     }
 
@@ -44,13 +44,13 @@ impl DeviceEndpoint {
     pub(crate) fn has_address(&self, address: u8) -> bool
         ensures { result ≡ ((endpoint_of self.now).address == address) }
     {
-        self.address == address
+        self.spot.address == address
     }
 
-    pub(crate) fn stands_at(&self, address: u8, number: u8, direction: Direction) -> bool
-        ensures { result ≡ stands_at address number direction (endpoint_of self.now) }
+    pub(crate) fn stands_at(&self, spot: Spot) -> bool
+        ensures { result ≡ stands_at spot.address spot.number spot.direction (endpoint_of self.now) }
     {
-        self.address == address && self.number == number && self.direction.is(direction)
+        self.spot == spot
     }
 
     // What the clear request does.
@@ -67,16 +67,16 @@ impl DeviceEndpoint {
         ensures after { endpoint_of self.new ≡ (out_reaches toggle bytes.now (endpoint_of self.old)).endpoint }
     {
         if self.halted {
-            return 5;
+            return STALL;
         }
-        if !toggle.agrees(self.toggle) {
-            return 0;
+        if toggle != self.toggle {
+            return SUCCESS;
         }
         if !self.taken.append(bytes) {
-            return 4;
+            return NAK;
         }
         self.toggle = self.toggle.flipped();
-        0
+        SUCCESS
     }
 
     pub(crate) fn out(&mut self, fate: Fate, toggle: Toggle, bytes: &[u8]) -> u8
@@ -90,10 +90,10 @@ impl DeviceEndpoint {
                 let _ = self.take(toggle, bytes);
                 code
             }
-            Fate::Nak => 4,
+            Fate::Nak => NAK,
             Fate::Stall => {
                 self.halted = true;
-                5
+                STALL
             }
         }
     }
@@ -112,16 +112,16 @@ impl DeviceEndpoint {
         ensures bytes { inbox_bytes into.new ≡ (if nat_eq result 0 then first (endpoint_of self.now).waiting else inbox_bytes into.old) }
     {
         if self.halted {
-            return 5;
+            return STALL;
         }
         let Some(packet) = self.waiting.front() else {
-            return 4;
+            return NAK;
         };
-        if !toggle.agrees(self.toggle) {
-            return 6;
+        if toggle != self.toggle {
+            return WRONG_TOGGLE;
         }
         into.fill(packet.as_slice());
-        0
+        SUCCESS
     }
 
     // An IN that reached the endpoint; `heard` says whether the host's acknowledgement reaches it too.
@@ -131,7 +131,7 @@ impl DeviceEndpoint {
         ensures bytes { inbox_bytes into.new ≡ (if nat_eq result 0 then first (endpoint_of self.old).waiting else inbox_bytes into.old) }
     {
         let code = self.offer(toggle, into);
-        if heard && (code == 0 || code == 6) {
+        if heard && matches!(code, SUCCESS | WRONG_TOGGLE) {
             self.go_on();
         }
         code
@@ -146,10 +146,10 @@ impl DeviceEndpoint {
             Fate::Arrives => self.hand_over(true, toggle, into),
             Fate::Lost(code) => code,
             Fate::Unheard(_) => self.hand_over(false, toggle, into),
-            Fate::Nak => 4,
+            Fate::Nak => NAK,
             Fate::Stall => {
                 self.halted = true;
-                5
+                STALL
             }
         }
     }

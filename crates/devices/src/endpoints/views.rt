@@ -24,9 +24,9 @@ impl DeviceEndpoint {
         ensures { Shows (endpoint_of self.now) result }
     {
         EndpointState {
-            address: self.address,
-            number: self.number,
-            direction: self.direction,
+            address: self.spot.address,
+            number: self.spot.number,
+            direction: self.spot.direction,
             toggle: self.toggle,
             halted: self.halted,
             capacity: self.taken.size(),
@@ -45,9 +45,6 @@ impl DeviceEndpoint {
     pub fn packet(&self, place: usize) -> Option<&[u8]>
         ensures { MatchOption result (length (endpoint_of self.now).waiting ≤ place) (λ bytes. (place < length (endpoint_of self.now).waiting) × (bytes.now ≡ slice_index_or (endpoint_of self.now).waiting place [])) }
     {
-        match self.waiting.get(place) {
-            Some(packet) => Some(packet.as_slice()),
-            None => None,
-        }
+        self.waiting.get(place).map(|packet| packet.as_slice())
     }
 }

@@ -5,11 +5,11 @@ use super::Packet;
 use std::alloc::{AllocError, Global};
 
 impl Packet {
-    pub(crate) fn new(heap: Global, bytes: &[u8]) -> Result<Packet, AllocError>
+    pub(crate) fn new(alloc: Global, bytes: &[u8]) -> Result<Packet, AllocError>
         requires { length bytes.now ≤ 64 }
         ensures { IfOk result (λ p. packet_bytes p ≡ bytes.now) }
     {
-        let bytes = Vec::from_slice(heap, bytes)?;
+        let bytes = Vec::from_slice(alloc, bytes)?;
         Ok(Packet { bytes })
     }
 

@@ -1,5 +1,5 @@
 ghost use Rattle.std.specs.Prelude.{◌≡◌, ◌%◌, ◌<◌, length, IfOk, slice_index};
-ghost use Rattle.port.specs.Chip.{fresh_chip, load_sending, load_setup, set_count, clear_flags, set_address, set_toggles, take_incoming, flags, status, packet, request, toggled, has_bit};
+ghost use Rattle.port.specs.Chip.{fresh_chip, load_sending, load_setup, set_count, clear_flags, set_address, set_toggles, take_incoming, flags, status, packet, request, toggled, has_bit, weight as weight_of};
 ghost use Rattle.port.specs.Launches.{advanced, ends_plain, ends_out, ends_in};
 ghost use Rattle.parts.specs.Records.{chip_of, with_sending, with_setup};
 
@@ -10,7 +10,16 @@ use port::Toggle;
 use port::registers::{
     HXFRDN, PACKET_MOST, RCVDAV, RCVTOG0, RCVTOG1, SETUP_LENGTH, SNDTOG0, SNDTOG1,
 };
+use port::results::SUCCESS;
 use std::alloc::{AllocError, Global};
+
+// HIRQ: the send buffer is free
+const SNDBAV: u8 = 0x08;
+
+// HRSL: the send toggle, and the receive toggle
+const SNDTOGRD: u8 = 0x20;
+
+const RCVTOGRD: u8 = 0x10;
 
 // Whether the bit of this weight, a power of two, is set.
 fn has_bit(byte: u8, weight: u8) -> bool
@@ -18,6 +27,13 @@ fn has_bit(byte: u8, weight: u8) -> bool
     ensures { result ≡ has_bit weight byte }
 {
     byte / weight % 2 == 1
+}
+
+// A flag as the weight that it has in a register.
+fn weight(flag: bool, weight: u8) -> u8
+    ensures { result ≡ weight_of flag weight }
+{
+    if flag { weight } else { 0 }
 }
 
 // A toggle after one bit asks for DATA1 and one for DATA0: both, or neither, leave it as it is.
@@ -31,20 +47,24 @@ fn set_toggle(to1: bool, to0: bool, toggle: Toggle) -> Toggle
     }
 }
 
-// A toggle after a transaction with this result: it flips on result 0 and on no other.
+// A toggle after a transaction with this result: it flips on success and on nothing else.
 fn advanced(code: u8, toggle: Toggle) -> Toggle
     ensures { result ≡ advanced code toggle }
 {
-    if code == 0 { toggle.flipped() } else { toggle }
+    if code == SUCCESS {
+        toggle.flipped()
+    } else {
+        toggle
+    }
 }
 
 impl ChipRecord {
-    pub fn new(heap: Global) -> Result<ChipRecord, AllocError>
+    pub fn new(alloc: Global) -> Result<ChipRecord, AllocError>
         ensures { IfOk result (λ c. chip_of c ≡ fresh_chip) }
     {
-        let sending = Room::new(heap, PACKET_MOST)?;
-        let setup = Room::new(heap, SETUP_LENGTH)?;
-        let incoming = Inbox::new(heap)?;
+        let sending = Room::new(alloc, PACKET_MOST)?;
+        let setup = Room::new(alloc, SETUP_LENGTH)?;
+        let incoming = Inbox::new(alloc)?;
         Ok(ChipRecord {
             sending,
             count: 0,
@@ -75,7 +95,7 @@ impl ChipRecord {
     pub fn set_count(&mut self, count: u8)
         ensures { chip_of self.new ≡ set_count (chip_of self.old) count }
     {
-        if count <= 64 {
+        if usize::from(count) <= PACKET_MOST {
             self.count = count;
             self.free = false;
         }
@@ -130,10 +150,7 @@ impl ChipRecord {
     pub fn flags(&self) -> u8
         ensures { result ≡ flags (chip_of self.now) }
     {
-        let done = if self.done { 128 } else { 0 };
-        let free = if self.free { 8 } else { 0 };
-        let received = if self.received { 4 } else { 0 };
-        done + free + received
+        weight(self.done, HXFRDN) + weight(self.free, SNDBAV) + weight(self.received, RCVDAV)
     }
 
     pub fn address(&self) -> u8
@@ -145,7 +162,9 @@ impl ChipRecord {
     pub fn status(&self) -> u8
         ensures { result ≡ status (chip_of self.now) }
     {
-        32 * self.send_toggle.number() + 16 * self.receive_toggle.number() + self.result
+        SNDTOGRD * u8::from(self.send_toggle)
+            + RCVTOGRD * u8::from(self.receive_toggle)
+            + self.result
     }
 
     // Whether a received packet has not been cleared yet.
@@ -171,7 +190,7 @@ impl ChipRecord {
     pub fn make_packet(&mut self)
         ensures { chip_of self.new ≡ with_sending (chip_of self.old) (packet (chip_of self.old)) }
     {
-        self.sending.fill_to(self.count as usize);
+        self.sending.fill_to(usize::from(self.count));
     }
 
     // Brings the setup buffer to the eight bytes that a SETUP sends.
@@ -229,9 +248,7 @@ impl ChipRecord {
     {
         let code = code % 16;
         self.receive_toggle = advanced(code, self.receive_toggle);
-        if code == 0 {
-            self.received = true;
-        }
+        self.received = self.received || code == SUCCESS;
         self.finish(code);
     }
 }

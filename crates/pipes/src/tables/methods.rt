@@ -11,12 +11,9 @@ use port::{Direction, Toggle};
 fn leads_to(place: Option<Pipe>, address: u8, endpoint: u8, direction: Direction) -> bool
     ensures { result ≡ leads_to address endpoint direction place }
 {
-    match place {
-        Some(pipe) => pipe.address == address
-            && pipe.endpoint == endpoint
-            && pipe.direction.is(direction),
-        None => false,
-    }
+    place.is_some_and(|pipe| {
+        pipe.address == address && pipe.endpoint == endpoint && pipe.direction == direction
+    })
 }
 
 impl Table {
@@ -33,19 +30,15 @@ impl Table {
     pub fn pipe(&self, number: u8) -> Option<Pipe>
         ensures { result ≡ pipe_at self.now.pipes number }
     {
-        let place = number as usize;
-        if place < PIPES {
-            self.pipes[place]
-        } else {
-            None
-        }
+        *self.pipes.get(usize::from(number))?
     }
 
     // Another pipe in this place, or none.
     pub fn store(&mut self, number: u8, pipe: Option<Pipe>)
         ensures { self.new.pipes ≡ slice_set self.old.pipes number pipe }
     {
-        let place = number as usize;
+        // not by get_mut: a write through it is not followed into the table, which keeps a fact of its places
+        let place = usize::from(number);
         if place < PIPES {
             self.pipes[place] = pipe;
         }
@@ -55,8 +48,7 @@ impl Table {
     pub fn settle(&mut self, number: u8, pipe: Pipe, toggle: Toggle, event: Event)
         ensures { self.new.pipes ≡ slice_set self.old.pipes number (Some (with_state pipe toggle (next_standing pipe.standing event))) }
     {
-        let mut settled = pipe;
-        settled.toggle = toggle;
+        let mut settled = Pipe { toggle, ..pipe };
         settled.standing.advance(event);
         self.store(number, Some(settled));
     }
@@ -65,11 +57,8 @@ impl Table {
     pub fn holds(&self, address: u8, endpoint: u8, direction: Direction) -> bool
         ensures { result ≡ some_pipe_at address endpoint direction self.now.pipes }
     {
-        for place in self.pipes.iter() {
-            if leads_to(*place, address, endpoint, direction) {
-                return true;
-            }
-        }
-        false
+        self.pipes
+            .iter()
+            .any(|place| leads_to(*place, address, endpoint, direction))
     }
 }

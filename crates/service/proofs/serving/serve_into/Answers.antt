@@ -1,24 +1,10 @@
-use Rattle.std.proofs.Common.{◌≡◌, ◌-◌, [], map, vec_items, vec_len, vec_capacity, sym, refl, ap, subst, arith}
+use Rattle.std.proofs.Common.{◌≡◌, [], map, vec_items, refl, ap, subst, arith}
 use Rattle.std.proofs.lemmas.List.{nil_from_length}
-use Rattle.std.proofs.lemmas.Bool.{le-leb, true≢false}
 use Rattle.std.specs.Vec.Iter.{into_iter_items}
 use Rattle.service.specs.Asks.{asked, replied}
 use Rattle.service.specs.Serving.{state, ServedBehind}
-use Rattle.service.proofs.Serves.{so_far_none, so_far_more, so_far_all}
+use Rattle.service.proofs.Serves.{so_far_more, so_far_all}
 use Rattle.service.proofs.serving.serve_into.Goals as goal
-
-pub loop-call-init : goal.loop-call-init
-loop-call-init g c =
-    let s = state c.args.host.now.table.pipes (g.P.Port.meaning c.args.host.now.port) in
-    let all = map asked (into_iter_items c.into_iter-call-iterator.result) in (
-      so_far_none (map replied (vec_items c.args.outcomes.now)) s all,
-      omega (arith, c.if-len-capacity.false, c.len.ensures, c.len-2.ensures, c.capacity.ensures, c.args.outcomes.now.ok.1, c.into_iter-call-iterator.ensures.into_iter_gives.1),
-      tt,
-      tt,
-    )
-
-pub serve_next-requires : goal.serve_next-requires
-serve_next-requires g c = omega (arith, c.loop-call.invariant.1, c.in-Some.ensures.steps.1)
 
 pub loop-call-preserved : goal.loop-call-preserved
 loop-call-preserved g c =
@@ -35,8 +21,8 @@ loop-call-preserved g c =
       tt,
     )
 
-pub returns : goal.returns
-returns g c =
+pub returns-clause-served : goal.returns-clause-served
+returns-clause-served g c =
     let s = state c.loop-call.host.table.pipes (g.P.Port.meaning c.loop-call.host.port) in
     let start = state c.args.host.now.table.pipes (g.P.Port.meaning c.args.host.now.port) in
     let before = map replied (vec_items c.args.outcomes.now) in
@@ -44,8 +30,4 @@ returns g c =
     let none : items ≡ [] = nil_from_length items (omega (arith, c.loop-call.call-iterator.rest.ok.0, c.in-None.ensures.steps.0)) in
     let all : map asked (into_iter_items c.into_iter-call-iterator.result) ≡ map asked (vec_items c.args.calls) = ap (map asked) c.into_iter-call-iterator.ensures.into_iter_gives.0 in
     let given = map replied (vec_items c.loop-call.outcomes) in
-    record {
-      room = sym (le-leb (vec_len c.args.calls) (vec_capacity c.args.outcomes.now - vec_len c.args.outcomes.now) (omega (arith, c.if-len-capacity.false, c.len.ensures, c.len-2.ensures, c.capacity.ensures)));
-      served = λ _. subst (λ l. ServedBehind before start l given s) all (so_far_all before s start given (map asked items) _ (ap (map asked) none) c.loop-call.invariant.0);
-      same = λ no_room. absurd (true≢false no_room);
-    }
+    subst (λ l. ServedBehind before start l given s) all (so_far_all before s start given (map asked items) _ (ap (map asked) none) c.loop-call.invariant.0)

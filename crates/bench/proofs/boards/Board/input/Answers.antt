@@ -8,6 +8,6 @@ pub returns : goal.returns
 returns c =
     search (
       rules,
-      low_four _ _ c.input-code.ensures.code (in_code_small _ _ _ c.requires _ _),
-      arrived _ _ _ _ _ _ c.requires c.input-code.ensures.code _ _ _ c.input-code.ensures.bytes,
+      low_four _ _ c.input-code.ensures.code (in_code_small _ _ _ c.args.fate.real _ _),
+      arrived _ _ _ _ _ _ c.args.fate.real c.input-code.ensures.code _ _ _ c.input-code.ensures.bytes,
     )

@@ -4,4 +4,4 @@ use Rattle.bench.proofs.Ends.{low_four}
 use Rattle.bench.proofs.boards.Board.out.Goals as goal
 
 pub returns : goal.returns
-returns c = search (rules, low_four _ _ c.out-code.ensures.code (out_code_small _ _ _ c.requires _ _ _))
+returns c = search (rules, low_four _ _ c.out-code.ensures.code (out_code_small _ _ _ c.args.fate.real _ _ _))

@@ -1,12 +1,10 @@
-use Rattle.std.proofs.Common.{sym}
-use Rattle.devices.proofs.Rows.{address_here, address_more, address_all}
+use Rattle.std.proofs.Common.{rules, tests, eqb, vec_items, ◌∙◌}
+use Rattle.std.proofs.lemmas.Iterator.{YieldsList-from_slice}
+use Rattle.std.proofs.lemmas.Iterator.Search.{any_from_yields_List}
+use Rattle.devices.proofs.Places.{lives_any}
 use Rattle.devices.proofs.bus.Devices.lives.Goals as goal
 
-pub returns-then-has_address : goal.returns-then-has_address
-returns-then-has_address c = address_here _ _ c.deref-endpoint-items.ensures.value _ _ _ c.loop-endpoint.invariant _ c.loop-endpoint-test.true c.endpoint-item.is (sym c.if-has_address.ensures)
-
-pub loop-endpoint-preserved : goal.loop-endpoint-preserved
-loop-endpoint-preserved c = address_more _ _ c.deref-endpoint-items.ensures.value _ _ _ c.loop-endpoint.invariant _ c.loop-endpoint-test.true c.endpoint-item.is (sym c.if-has_address.ensures)
-
 pub returns : goal.returns
-returns c = address_all _ _ c.deref-endpoint-items.ensures.value _ _ _ c.loop-endpoint.invariant c.loop-endpoint-test.false
+returns c =
+    any_from_yields_List (λ e. eqb e.spot.address c.args.address) _ _ _ c.any.ensures.ran (YieldsList-from_slice (vec_items c.args.self.now.endpoints) (cc)) (λ x b q k. search (rules, tests))
+    ∙ lives_any _ _

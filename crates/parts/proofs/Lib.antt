@@ -1,2 +1,0 @@
-mod Fronts
-mod Queued
