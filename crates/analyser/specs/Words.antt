@@ -1,5 +1,5 @@
 -- An exchange in words: a line for the command byte, and one for each data byte. Assumes nothing.
-use Rattle.std.specs.Prelude.{ℕ, ◌-◌, ◌^◌, ◌==◌, false, cond, List, [], ◌∷◌, ◌++◌, codes}
+use Rattle.std.specs.Prelude.{ℕ, ◌-◌, ◌^◌, ◌==◌, false, cond, List, [], ◌∷◌, ◌++◌, codes, slice_index}
 use Rattle.std.specs.Fmt.{digits, decimal, padded_integral, format_spec}
 use Rattle.frames.specs.Asked.{Asked, puts, gets}
 use Rattle.frames.specs.Format.{register_of, body, asked_by}
@@ -43,3 +43,8 @@ words [] answered = []
 words (out ∷ sent) [] = []
 words (out ∷ sent) (back ∷ answered) =
     command_line out back (asked_by out (body sent)) ++ data_lines (meaning (register_of (asked_by out (body sent)))) sent answered
+
+-- what comes back of the frame that gets the flags
+abbrev pub flags_text : List ℕ → List ℕ
+flags_text bytes =
+    codes "The flags of R25 through a wire over a port over a wire: out c8 00, in " ++ (hex (slice_index bytes 0) ++ (codes " " ++ hex (slice_index bytes 1)))

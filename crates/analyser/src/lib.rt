@@ -8,5 +8,5 @@ mod taps;
 mod tests;
 
 pub use exchanges::Exchange;
-pub use listening::{Overheard, get_flags, listen};
+pub use listening::{Flags, Overheard, get_flags, listen};
 pub use taps::Tap;

@@ -123,7 +123,7 @@ impl Devices {
         self.endpoints[i].input(fate, toggle, into)
     }
 
-    // Does what the eight setup bytes ask. Whether that was possible.
+    // Does what the eight setup bytes ask. Whether that was possible, as it is kept of the setup that was heard.
     #[tactic(auto, using(crate::proofs::Rows::rows))]
     fn obey(&mut self, address: u8, request: &[u8]) -> bool
         ensures found { result ≡ nat_lt (clear_place address request.now (endpoints_of self.old)) (length (endpoints_of self.old)) }

@@ -64,7 +64,7 @@ impl Access<'_> {
 
 // Writes the frame of an access to the front of the buffer, and gives its length: 1 + its data bytes. Gives 0, and leaves the buffer
 // as it is, if the register is above 31, the data bytes are more than 64, or the buffer is too short. It is a rule of frames that a
-// length of 0 stands for no frame, so it is no `Option`.
+// length of 0 stands for no frame, so it is no `Option`; and the buffer is the caller's, since a wire has no heap.
 pub fn write_frame(access: Access, buffer: &mut [u8]) -> usize
     ensures length { result ≡ written_length (asked access.entry) buffer.old }
     ensures bytes { buffer.new ≡ written (asked access.entry) buffer.old }

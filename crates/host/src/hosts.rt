@@ -14,6 +14,7 @@ use pipes::{
 };
 use port::{Port, Toggle};
 
+// It has no model: clauses read the port and the table, and of a call that declines they promise that the very same host is left.
 pub struct Host<P> {
     port: P,
     table: Table,

@@ -29,15 +29,6 @@ fn standing(standing: Standing) -> &'static str {
     }
 }
 
-// 0 for success, else the refusal's number.
-pub fn number(outcome: &Outcome) -> u8 {
-    match outcome {
-        Outcome::Answered(answer) | Outcome::Fetched(answer, _) => answer.number(),
-        Outcome::Shown(Ok(_)) => 0,
-        Outcome::Shown(Err(refusal)) => refusal.number(),
-    }
-}
-
 // An open, a recover or a close, and a send that sent nothing.
 fn answered<W: fmt::Write>(answer: &Answer, f: &mut fmt::Formatter<W>) -> fmt::Result {
     let reason = reason(answer.refusal);

@@ -1,7 +1,7 @@
 // A day in words.
 use crate::days::Day;
 use crate::papers::show_paper;
-use crate::replies::{Reply, number};
+use crate::replies::Reply;
 use crate::steps::{LENDING, READING, Step};
 use service::Outcome;
 use std::io;
@@ -39,7 +39,7 @@ fn compare(rt: &HostRuntime, step: Step, outcome: &Outcome, before: &Outcome) ->
     } else {
         "NOT as before"
     };
-    println!(rt; "  {step}: answer {}, {as_before}", number(outcome))
+    println!(rt; "  {step}: answer {}, {as_before}", outcome.number())
 }
 
 // The calls of a list, beside the same calls on another day.

@@ -4,7 +4,7 @@ ghost use Rattle.std.specs.VecDeque.{deque_items, deque_len, deque_capacity};
 
 use std::collections::VecDeque;
 
-// These bytes more at the end.
+// These bytes more at the end. One by one, since of the library's `extend` no clause says that it finds memory that was got before.
 pub(crate) fn push_all(queue: &mut VecDeque<u8>, bytes: &[u8])
     requires { deque_len queue.old + length bytes.now ≤ deque_capacity queue.old }
     ensures items { deque_items queue.new ≡ deque_items queue.old ++ bytes.now }

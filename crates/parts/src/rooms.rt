@@ -1,4 +1,5 @@
-// A buffer of a fixed size whose memory is got once, so that nothing put into it later can fail.
+// A buffer of a fixed size whose memory is got once, so that nothing put into it later can fail. It has no model: of what was refused it is
+// promised that the very same memory is left, and two rooms of the same bytes and size need not be that.
 ghost use Rattle.std.specs.Prelude.{◌≤◌, vec_len, vec_capacity};
 
 mod methods;

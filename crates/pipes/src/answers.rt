@@ -34,7 +34,7 @@ impl Answer {
         }
     }
 
-    // 0 for success, else the refusal's number.
+    // 0 for success, else the refusal's number: under it a reader knows an answer.
     pub fn number(self) -> u8
         ensures { result ≡ answer_number self }
     {

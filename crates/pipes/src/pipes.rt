@@ -60,6 +60,7 @@ pub struct PipePlan {
     pub limit: u8,
 }
 
+// What the table keeps: a plain record, which has the numbers of its plan by themselves, as every definition reads them.
 #[derive(Clone, Copy, Debug, PartialEq, Eq)]
 pub struct Pipe {
     pub address: u8,

@@ -4,12 +4,10 @@ use Rattle.std.specs.Fmt.{decimal}
 use Rattle.pipes.specs.declared.answers.Answer.{Answer}
 use Rattle.pipes.specs.declared.pipes.Standing.{Standing}
 use Rattle.pipes.specs.declared.pipes.Standing.TheVariants.{InStep, Doubtful, Halted}
-use Rattle.pipes.specs.Answers.{answer_number}
-use Rattle.pipes.specs.Refusals.{refusal_number}
 use Rattle.port.specs.Toggles.{bit}
 use Rattle.service.specs.declared.calls.Call.{Call}
 use Rattle.service.specs.declared.calls.Call.TheVariants as call
-use Rattle.service.specs.Asks.{Reply, answers, brings, shows, replied}
+use Rattle.service.specs.Asks.{Reply, answers, brings, shows, replied, reply_number}
 use Rattle.scripts.specs.declared.saying.Part.{Part}
 use Rattle.scripts.specs.declared.saying.Part.TheVariants.{Endpoint, Packet, Fates}
 use Rattle.scripts.specs.declared.saying.Said.{Said}
@@ -52,13 +50,6 @@ abbrev pub standing_word : Standing → List ℕ
 standing_word InStep = codes "in-step"
 standing_word Doubtful = codes "doubtful"
 standing_word Halted = codes "halted"
-
--- 0 for success, else the refusal's number
-abbrev pub reply_number : Reply → ℕ
-reply_number (answers a) = answer_number a
-reply_number (brings a buffer) = answer_number a
-reply_number (shows (Ok l)) = 0
-reply_number (shows (Err why)) = refusal_number why
 
 -- the launches of a call, and the result code of the last
 abbrev pub tries_text : Answer → List ℕ

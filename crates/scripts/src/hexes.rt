@@ -52,6 +52,7 @@ pub(crate) fn bytes(alloc: Global, word: &str) -> Result<Vec<u8>, LineError>
         return Ok(bytes);
     }
     let mut rest = word.as_bytes();
+    // by a pattern that takes two digits off, which leaves an odd one in sight; over `chunks` it takes more proof, and reads no plainer
     while let [high, low, after @ ..] = rest {
         let Some(byte) = pair(*high, *low) else {
             return Err(LineError::NotUnderstood);

@@ -1,6 +1,6 @@
 // What a line of a script prints.
 ghost use Rattle.std.specs.Prelude.{◌≡◌, Some};
-ghost use Rattle.scripts.specs.Saying.{said_text, reply_number, rest_text, tries_text, part_word, verb_word, verb_of, pipe_of, standing_word};
+ghost use Rattle.scripts.specs.Saying.{said_text, rest_text, tries_text, part_word, verb_word, verb_of, pipe_of, standing_word};
 ghost use Rattle.service.specs.Asks.{replied};
 
 use crate::hexes::Hex;
@@ -122,16 +122,6 @@ fn standing_word(standing: Standing) -> &'static str
     }
 }
 
-// The number that a call answers: 0 for success, else that of the refusal.
-fn number_of(outcome: &Outcome) -> u8
-    ensures { result ≡ reply_number (replied outcome.now) }
-{
-    match outcome {
-        Outcome::Answered(answer) | Outcome::Fetched(answer, _) => answer.number(),
-        Outcome::Shown(looked) => looked.map_or_else(|refusal| refusal.number(), |_| 0),
-    }
-}
-
 // The launches of a call.
 #[derive(Clone, Copy)]
 struct Tries(Answer);
@@ -202,7 +192,7 @@ impl fmt::Display for Said {
                 pipe,
                 outcome,
             } => {
-                let number = number_of(outcome);
+                let number = outcome.number();
                 writeln!(f, "{verb} {pipe}: number {number}{}", Rest(*verb, outcome))
             }
             Said::Shown(text) => write!(f, "{text}"),

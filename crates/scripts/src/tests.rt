@@ -18,6 +18,12 @@ fn lines_are_read(rt: HostRuntime) -> Result<(), Fail> {
         value: 9,
     };
     assert_eq!(rt; Command::read(alloc, b"put 28 9")?, put);
+    let packet = Command::Packet {
+        address: 9,
+        number: 1,
+        bytes: vec![in alloc; 0x41, 0xff]?,
+    };
+    assert_eq!(rt; Command::read(alloc, b"wait 9 1 41ff")?, packet);
     for line in [b"put 28 09", b"put 28 +9", b"put  28 9", b"put 28 9 "] {
         assert_eq!(rt; Command::read(alloc, line), Err(LineError::NotUnderstood));
     }

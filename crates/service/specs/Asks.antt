@@ -1,9 +1,11 @@
 -- A call and what came of it as plain values: numbers and lists of bytes, whatever memory holds them. Assumes nothing.
-use Rattle.std.specs.Prelude.{ℕ, List, Result, vec_items}
+use Rattle.std.specs.Prelude.{ℕ, List, Ok, Err, Result, vec_items}
 use Rattle.port.specs.declared.directions.Direction.{Direction}
 use Rattle.pipes.specs.declared.answers.Answer.{Answer}
 use Rattle.pipes.specs.declared.answers.Looked.{Looked}
 use Rattle.pipes.specs.declared.refusals.Refusal.{Refusal}
+use Rattle.pipes.specs.Answers.{answer_number}
+use Rattle.pipes.specs.Refusals.{refusal_number}
 use Rattle.service.specs.declared.calls.Call.{Call}
 use Rattle.service.specs.declared.calls.Call.TheVariants as call
 use Rattle.service.specs.declared.calls.Outcome.{Outcome}
@@ -31,6 +33,13 @@ asked (call.Fetch n b) = fetch_into n (vec_items b)
 asked (call.Recover n) = recover_pipe n
 asked (call.Look n) = look_at n
 asked (call.Close n) = close_pipe n
+
+-- 0 for success, else the refusal's number
+abbrev pub reply_number : Reply → ℕ
+reply_number (answers a) = answer_number a
+reply_number (brings a buffer) = answer_number a
+reply_number (shows (Ok l)) = 0
+reply_number (shows (Err why)) = refusal_number why
 
 abbrev pub replied : Outcome → Reply
 replied (outcome.Answered a) = answers a

@@ -1,4 +1,7 @@
 // A call to the host, and what came of it.
+ghost use Rattle.std.specs.Prelude.{◌≡◌};
+ghost use Rattle.service.specs.Asks.{replied, reply_number};
+
 use host::{Answer, Looked, PipePlan, Refusal};
 
 // One of the six calls, with its numbers, its message or its buffer.
@@ -22,4 +25,16 @@ pub enum Outcome {
     Fetched(Answer, Vec<u8>),
     // of look
     Shown(Result<Looked, Refusal>),
+}
+
+impl Outcome {
+    // 0 for success, else the refusal's number.
+    pub fn number(&self) -> u8
+        ensures { result ≡ reply_number (replied self.now) }
+    {
+        match self {
+            Outcome::Answered(answer) | Outcome::Fetched(answer, _) => answer.number(),
+            Outcome::Shown(looked) => looked.map_or_else(|refusal| refusal.number(), |_| 0),
+        }
+    }
 }

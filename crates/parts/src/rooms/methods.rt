@@ -35,7 +35,8 @@ impl Room {
         }
     }
 
-    // These bytes more at the end; none of them where they do not all fit. Whether they fit.
+    // These bytes more at the end; none of them where they do not all fit. Whether they fit: an answer and no failure, since a full endpoint
+    // says NAK.
     pub fn append(&mut self, bytes: &[u8]) -> bool
         ensures fits { result ≡ not (nat_lt (room_size self.old) (length (room_bytes self.old) + length bytes.now)) }
         ensures after { Holds (if result then room_bytes self.old ++ bytes.now else room_bytes self.old) (room_size self.old) self.new }

@@ -53,7 +53,7 @@ impl Table {
         self.store(number, Some(settled));
     }
 
-    // Whether some pipe has this address, endpoint and direction.
+    // Whether some pipe has this address, endpoint and direction: the three that name an endpoint, of a plan or of a pipe.
     pub fn holds(&self, address: u8, endpoint: u8, direction: Direction) -> bool
         ensures { result ≡ some_pipe_at address endpoint direction self.now.pipes }
     {
