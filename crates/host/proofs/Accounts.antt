@@ -26,6 +26,12 @@ use Rattle.host.proofs.Replies.{Reply, taken, repeated, busy, stalled, lost, unh
 agree_same : (t u : Toggle) → agree t u ≡ true → u ≡ t
 agree_same t u h = grind (arith, common_steps)
 
+agree_other : (t u : Toggle) → agree t u ≡ false → u ≡ flip t
+agree_other t u h = grind (arith, common_steps)
+
+pub agree_self : (t u : Toggle) → u ≡ t → agree t u ≡ true
+agree_self t u h = grind (arith, common_steps)
+
 pub agree_flip : (t u : Toggle) → u ≡ flip t → agree t u ≡ false
 agree_flip t u h = grind (arith, common_steps)
 

@@ -7,7 +7,8 @@ use Rattle.port.specs.Bus.{Bus}
 use Rattle.attempt.specs.declared.tries.Arrival.{Arrival}
 use Rattle.attempt.specs.Tries.{in_answer}
 use Rattle.host.specs.declared.fetching.Intake.{Intake}
-use Rattle.pipes.specs.Counting.{verdict, stop_of}
+use Rattle.pipes.specs.declared.counting.Counts.{Counts}
+use Rattle.pipes.specs.Counting.{verdict, succeeded, stop_of}
 use Rattle.host.specs.Sending.{none_yet}
 use Rattle.host.specs.Fetching.{Fetching, fetching, bytes_in, in_judged, fetch_start, next_room, fetch_step, fetch_going, fetch_budget, fetch_run}
 use Rattle.host.proofs.Budgets.{at_least}
@@ -16,6 +17,10 @@ use Rattle.pipes.proofs.Judging.{Bounds}
 use Rattle.host.proofs.KeptBuffers.{KeptIn, step_kept}
 use Rattle.host.proofs.Runs.{run_ends}
 use Rattle.host.proofs.Tallying.{counts_kept}
+
+-- result 0 succeeds, and no other
+pub succeeds_at : (code : ℕ) (c : Counts) → succeeded (verdict code c) ≡ eqb code 0
+succeeds_at code c = grind (arith, common_steps)
 
 module _ (address endpoint size limit : ℕ) (before : List ℕ) (some_size : 1 ≤ size) (some_limit : 1 ≤ limit) where
   -- what every state of a fetch keeps

@@ -5,6 +5,10 @@ use Rattle.port.specs.Bus.{Bus}
 use Rattle.host.specs.declared.fetching.Intake.{Intake}
 use Rattle.host.specs.Fetching.{Fetching, next_room, fetch_step}
 
+-- a cut at the end of a list is a cut at any place past it
+pub cut_min : (size i k : ℕ) (xs : List ℕ) → k ≡ min (i + size) (length xs) → i ≤ length xs → take (k - i) (drop i xs) ≡ take size (drop i xs)
+cut_min size i k xs e h = grind (arith, common_steps)
+
 -- one step of the code is one step of the machine
 module _ (a e size limit : ℕ) (q : Intake) (buffer : List ℕ) (b : Bus) (k : ℕ) (is : k ≡ min (q.received + size) (length buffer)) (within : q.received ≤ length buffer) where
   abbrev lent : List ℕ

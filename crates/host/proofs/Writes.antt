@@ -36,3 +36,7 @@ module _ (i size : ℕ) (bytes buffer : List ℕ) (here : i ≤ length buffer) (
   pub written_behind : drop (i + n) (written i (bytes ++ drop n room) buffer) ≡ drop (i + n) buffer
   written_behind =
       sym (drop-drop n i (written i (bytes ++ drop n room) buffer)) ∙ ap (drop n) written_bytes ∙ drop_at bytes (drop (i + n) buffer) n refl
+
+-- the room as it was, written back, changes nothing
+pub written_back : (i size : ℕ) (buffer : List ℕ) → i ≤ length buffer → written i (take size (drop i buffer)) buffer ≡ buffer
+written_back i size buffer here = grind (arith, common_steps)

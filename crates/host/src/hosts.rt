@@ -128,7 +128,9 @@ impl<P: Port> Host<P> {
         }
     }
 
-    // An open of a new pipe, which is put into its place where the endpoint was cleared.
+    // An open of a new pipe, which is put into its place where the endpoint was cleared. It stands by itself, so that a refused open pays
+    // nothing for it.
+    #[inline(never)]
     fn open_pipe(&mut self, number: u8, pipe: Pipe) -> Answer
         ensures answer { result ≡ (open_end self.old.table.pipes (P.meaning self.old.port) number pipe (clear_run pipe.address pipe.endpoint pipe.direction pipe.limit (P.meaning self.old.port))).answer }
         ensures table { self.new.table.pipes ≡ (open_end self.old.table.pipes (P.meaning self.old.port) number pipe (clear_run pipe.address pipe.endpoint pipe.direction pipe.limit (P.meaning self.old.port))).places }

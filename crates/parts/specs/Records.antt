@@ -1,6 +1,5 @@
 -- What the record in memory stands for. Assumes nothing.
-use Rattle.std.specs.Prelude.{ℕ, List}
-use Rattle.std.specs.VecDeque.{deque_items}
+use Rattle.std.specs.Prelude.{ℕ, List, drop}
 use Rattle.port.specs.Chip.{Chip}
 use Rattle.parts.specs.Rooms.{room_bytes}
 use Rattle.parts.specs.declared.inboxes.Inbox.{Inbox}
@@ -8,7 +7,7 @@ use Rattle.parts.specs.declared.records.ChipRecord.{ChipRecord}
 
 -- the bytes that were received and not yet taken
 abbrev pub inbox_bytes : Inbox → List ℕ
-inbox_bytes inbox = deque_items inbox.bytes
+inbox_bytes inbox = drop inbox.read (room_bytes inbox.room)
 
 abbrev pub chip_of : ChipRecord → Chip
 chip_of r =

@@ -1,14 +1,15 @@
-// The receive buffer: the bytes of one packet that are left to take. Its memory is got once, so that filling it cannot fail.
-ghost use Rattle.std.specs.Prelude.{◌≤◌};
-ghost use Rattle.std.specs.VecDeque.{deque_len, deque_capacity};
+// The receive buffer: the bytes of one packet, and how many of them were taken. A place beside the bytes, and no queue: a packet is
+// copied in at once, and a byte is read in fewer steps.
+ghost use Rattle.std.specs.Prelude.{◌≡◌, ◌≤◌, vec_len};
 
-use std::collections::VecDeque;
+use crate::rooms::Room;
 
 mod methods;
 
 #[derive(Drop)]
 pub struct Inbox {
-    bytes: VecDeque<u8>,
-    ghost room: { 64 ≤ deque_capacity bytes },
-    ghost most: { deque_len bytes ≤ 64 },
+    room: Room,
+    read: usize,
+    ghost within: { read ≤ vec_len room.bytes },
+    ghost size: { room.size ≡ 64 },
 }

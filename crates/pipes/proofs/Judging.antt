@@ -1,6 +1,6 @@
 -- The counting rule: what each verdict says of the counts. Assumes nothing.
 use Rattle.std.proofs.Common.{◌≡◌, ℕ, ◌+◌, ◌-◌, ◌≤◌, true, false, cond, eqb, leb, sym, refl, ap, ◌∙◌, subst, ⊎_elim, arith}
-use Rattle.std.proofs.lemmas.Bool.{cases_Bool, leb-false}
+use Rattle.std.proofs.lemmas.Bool.{cases_Bool, leb-false, ne_eqb}
 use Rattle.pipes.specs.declared.counting.Counts.{Counts}
 use Rattle.pipes.specs.declared.counting.Verdict.TheVariants.{Succeeded, Again, Stop}
 use Rattle.pipes.specs.declared.refusals.Refusal.{Refusal}
@@ -64,3 +64,20 @@ module _ (limit code : ℕ) (c : Counts) (h : Bounds limit c) where
       (λ (five : eqb code 5 ≡ false). ⊎_elim (on_nak zero five) (on_miss zero five) (cases_Bool (eqb code 4)))
       (cases_Bool (eqb code 5)))
       (cases_Bool (eqb code 0))
+
+-- a code of 7 and more is a miss, which is remembered
+module _ (code : ℕ) (c : Counts) (h : 7 ≤ code) where
+  not_zero : eqb code 0 ≡ false
+  not_zero = ne_eqb code 0 (λ e. omega arith)
+
+  not_five : eqb code 5 ≡ false
+  not_five = ne_eqb code 5 (λ e. omega arith)
+
+  not_four : eqb code 4 ≡ false
+  not_four = ne_eqb code 4 (λ e. omega arith)
+
+  pub miss_verdict : verdict code c ≡ cond (leb c.misses 1) (Stop ThirdMiss) Again
+  miss_verdict = let a = not_zero in let b = not_five in let d = not_four in rw (a, b, d) refl
+
+  pub miss_noted : (counted code c).missed ≡ true
+  miss_noted = let a = not_zero in let b = not_five in let d = not_four in rw (a, b, d) refl

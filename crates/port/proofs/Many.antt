@@ -1,8 +1,16 @@
 -- One access more of a many-access, from the front. Assumes nothing.
-use Rattle.std.proofs.Common.{◌≡◌, ℕ, suc, ◌+◌, ◌-◌, ◌<◌, ◌≤◌, List, [], ◌∷◌, ◌++◌, length, take, set, sym, ap, ◌∙◌, append_assoc, append-nil, arith}
-use Rattle.std.proofs.lemmas.List.{take_more_set, take_all, length-set}
+use Rattle.std.proofs.Common.{◌≡◌, ℕ, suc, ◌+◌, ◌-◌, ◌<◌, ◌≤◌, List, [], ◌∷◌, ◌++◌, length, get_or, take, drop, set, sym, ap, ◌∙◌, append_assoc, append-nil, arith}
+use Rattle.std.proofs.lemmas.List.{at_drop_more, at_drop_all, take_more_set, take_all, length-set}
 use Rattle.port.specs.Bus.{Bus}
-use Rattle.port.specs.Accesses.{got, after_get, gots, after_gets}
+use Rattle.port.specs.Accesses.{after_put, got, after_get, after_puts, gots, after_gets}
+
+-- the put of the byte at i leads from what is left at i to what is left after it
+pub puts_more : (r : ℕ) (bytes : List ℕ) (i : ℕ) (b b' last : Bus) → i < length bytes → b' ≡ after_put r (get_or bytes i 0) b → after_puts r (drop i bytes) b ≡ last → after_puts r (drop (i + 1) bytes) b' ≡ last
+puts_more r bytes i b b' last h e inv =
+    ap (after_puts r (drop (i + 1) bytes)) e ∙ sym (at_drop_more (λ left. after_puts r left b) bytes i 0 h) ∙ inv
+
+pub puts_all : (r : ℕ) (bytes : List ℕ) (i : ℕ) (b last : Bus) → length bytes ≤ i → after_puts r (drop i bytes) b ≡ last → b ≡ last
+puts_all r bytes i b last h inv = sym (at_drop_all (λ left. after_puts r left b) bytes i h) ∙ inv
 
 one_less : (n i : ℕ) → i < n → n - i ≡ suc (n - (i + 1))
 one_less n i h = omega arith
@@ -11,7 +19,7 @@ none_left : (n i : ℕ) → n ≤ i → n - i ≡ 0
 none_left n i h = omega arith
 
 module _ (r : ℕ) where
-  -- the get of the byte at i leads from what is left at i to what is left after it: the bytes so far, in front of what is left to get
+  -- the same of gets: the bytes so far, in front of what is left to get
   pub gets_more : (bytes : List ℕ) (i : ℕ) (x : ℕ) (b b' last : Bus) → i < length bytes → b' ≡ after_get r b → after_gets r (length bytes - i) b ≡ last → after_gets r (length (set bytes i x) - (i + 1)) b' ≡ last
   gets_more bytes i x b b' last h e inv =
       ap (λ n. after_gets r (n - (i + 1)) b') (length-set bytes i x)

@@ -3,7 +3,7 @@ use Rattle.std.proofs.Common.{◌≡◌, ℕ, false, eqb, length, Some, None, Op
 use Rattle.std.proofs.lemmas.Bool.{cond_both}
 use Rattle.port.specs.declared.transactions.Transaction.{Transaction}
 use Rattle.port.specs.Transactions.{transaction_of}
-use Rattle.port.specs.Chip.{load_sending, load_setup, set_count, clear_flags, set_address, set_toggles, take_incoming, status}
+use Rattle.port.specs.Chip.{load_sending, load_setup, set_count, clear_flags, set_address, set_toggles, take_incoming, flags, status}
 use Rattle.port.specs.Bus.{Bus, with_chip}
 use Rattle.port.specs.Launches.{held, carried, refused, launch_of, launch}
 use Rattle.port.specs.Accesses.{after_put, got, after_get}
@@ -50,6 +50,10 @@ module _ (b : Bus) where
   pub got_6 : got 6 b ≡ length b.chip.incoming
   unfolding got
   got_6 = refl
+
+  pub got_25 : got 25 b ≡ flags b.chip
+  unfolding got
+  got_25 = refl
 
   pub got_31 : got 31 b ≡ status b.chip
   unfolding got

@@ -1,5 +1,5 @@
 -- The hexadecimal of bytes, as it is printed and read.
-use Rattle.std.proofs.Common.{◌≡◌, ◌≢◌, ℕ, ◌+◌, ◌-◌, ◌^◌, ◌<◌, false, ◌⊎◌, List, [], ◌∷◌, ◌++◌, length, take, drop, get_or, slice_index, codes, ap, ◌∙◌, arith, inl, inr, suc}
+use Rattle.std.proofs.Common.{◌≡◌, ◌≢◌, ℕ, ◌+◌, ◌-◌, ◌%◌, ◌^◌, ◌<◌, false, ◌⊎◌, List, [], ◌∷◌, ◌++◌, length, take, drop, get_or, slice_index, codes, refl, ap, ◌∙◌, arith, inl, inr, suc}
 use Rattle.std.specs.Fmt.{digits, format_spec, padded_integral}
 use Rattle.std.specs.List.{flat_map}
 use Rattle.std.proofs.lemmas.Fmt.{hex_byte}
@@ -26,6 +26,18 @@ goes_on bs (o ∷ others) t word are some left other e is =
       | inl none ↦ left none
       | inr (b, more, byte, begins) ↦ other b more byte begins
     ]
+
+-- the digits of bytes come in pairs
+pairs_long : (bs : List ℕ) → length (flat_map hex_pair bs) ≡ length bs + length bs
+pairs_long [] = refl
+pairs_long (b ∷ bs) = omega (arith, pairs_long bs)
+
+-- so a word of an odd number of digits writes no bytes
+pub odd_word : (bs word : List ℕ) → length word % 2 ≢ 0 → word ≢ codes "-" → word ≢ hex_text bs
+odd_word [] word odd some e = some e
+odd_word (b ∷ bs) word odd some e =
+    let even : length word ≡ length (b ∷ bs) + length (b ∷ bs) = ap length e ∙ pairs_long (b ∷ bs) in
+    odd (omega arith)
 
 -- the text of a byte has two digits
 pub too_short : (b : ℕ) (more t : List ℕ) → t ≡ hex_pair b ++ more → length t < 2 → ⊥

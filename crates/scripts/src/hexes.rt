@@ -51,6 +51,10 @@ pub(crate) fn bytes(alloc: Global, word: &str) -> Result<Vec<u8>, LineError>
     if word == "-" {
         return Ok(bytes);
     }
+    // an odd number of digits is refused before memory is got for them
+    if !word.len().is_multiple_of(2) {
+        return Err(LineError::NotUnderstood);
+    }
     let mut rest = word.as_bytes();
     // by a pattern that takes two digits off, which leaves an odd one in sight; over `chunks` it takes more proof, and reads no plainer
     while let [high, low, after @ ..] = rest {

@@ -38,6 +38,8 @@ fn answer(
     ensures { Answers vocabulary line.now (scene_of machine) result.1 (scene_of result.0) }
 {
     match Command::read(alloc, line) {
+        // the machine stays where it is: to hand it on costs more than such a line
+        Ok(Command::Nothing) => (machine, Ok(Said::Nothing)),
         Ok(command) => {
             if vocabulary.has(&command) {
                 machine.obey(alloc, command)
@@ -67,10 +69,10 @@ fn tell(out: &mut String, number: usize, said: Result<Said, LineError>) -> Resul
 pub fn run(alloc: Global, script: &[u8], vocabulary: Vocabulary) -> Result<String, AllocError>
     ensures { IfOk result (λ out. Tells vocabulary script.now (string_bytes out)) }
 {
-    let lines: Vec<&[u8]> = script.split(|byte| *byte == b'\n').collect(alloc)?;
     let mut machine = Machine::new(alloc)?;
     let mut out = String::new(alloc);
-    for (place, line) in lines.iter().enumerate() {
+    // the lines are not collected: memory for them would grow with the script
+    for (place, line) in script.split(|byte| *byte == b'\n').enumerate() {
         let (next, said) = answer(alloc, machine, vocabulary, line);
         machine = next;
         tell(&mut out, place + 1, said)?;

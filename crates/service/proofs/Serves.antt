@@ -24,6 +24,9 @@ pub record SoFar (before : List Reply) (s : State) (given : List Reply) (left : 
   pub so_replied : given ++ replies s left ≡ before ++ replies start all
   pub so_ends : at_the_end s left ≡ at_the_end start all
 
+pub so_far_none : (before : List Reply) (start : State) (all : List Ask) → SoFar before start before all start all
+so_far_none before start all = record { so_replied = refl; so_ends = refl }
+
 pub so_far_more : (before : List Reply) (s s' start : State) (given given' : List Reply) (ask : Ask) (left now_left all : List Ask) (reply : Reply) → now_left ≡ ask ∷ left → reply ≡ (step s ask).reply → s' ≡ (step s ask).state → given' ≡ given ++ reply ∷ [] → SoFar before s given now_left start all → SoFar before s' given' left start all
 so_far_more before s s' start given given' ask left now_left all reply is r e more h =
     record {

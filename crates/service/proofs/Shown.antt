@@ -1,9 +1,10 @@
 -- The three laws, from what is sound. Assumes nothing.
-use Rattle.std.proofs.Common.{◌≡◌, ℕ, ◌<◌, List, length, Ok, Err, Result, refl, ap, subst, arith}
+use Rattle.std.proofs.Common.{◌≡◌, ℕ, ◌<◌, List, [], ◌∷◌, ◌++◌, length, Ok, Err, Result, refl, ap, subst, ⊎_elim, arith}
 use Rattle.std.proofs.lemmas.Grind.{common_steps}
 use Rattle.port.specs.declared.directions.Direction.{Direction}
 use Rattle.port.specs.declared.directions.Direction.TheVariants.{In}
 use Rattle.port.specs.declared.toggles.Toggle.{Toggle}
+use Rattle.port.specs.Toggles.{flip}
 use Rattle.port.specs.Bus.{Bus}
 use Rattle.pipes.specs.declared.pipes.Pipe.{Pipe}
 use Rattle.pipes.specs.declared.pipes.Standing.TheVariants.{InStep}
@@ -31,6 +32,13 @@ module _ (n : ℕ) (l : Lead) (past : History) (b : Bus) (t : Toggle) (level : L
   -- the device has gone on
   gone : ((device_of l b).toggle ≡ t) → ((device_of l b).waiting ≡ level.rest) → ToggleBeside In n l past b t
   gone same left = grind (arith, common_steps)
+
+  -- the device still holds the last packet
+  held : (before : List (List ℕ)) (last : List ℕ) → handed ≡ before ++ last ∷ [] → ((device_of l b).toggle ≡ flip t) → ((device_of l b).waiting ≡ last ∷ level.rest) → ToggleBeside In n l past b t
+  held before last is other left = grind (arith, common_steps)
+
+  pub level_beside : ToggleBeside In n l past b t
+  level_beside = ⊎_elim (λ x. gone x.0 x.1) (λ x. held x.0 x.1 x.2 x.3 x.4) level.at
 
 module _ (s : State) (past : History) (sound : Sound s past) where
   -- by the direction of the pipe

@@ -1,12 +1,17 @@
 -- What the worked runs need besides computing: that their buses are fresh, and what a run cannot have been. Assumes nothing.
 use Rattle.std.proofs.Common.{◌≡◌, ℕ, ◌+◌, ◌⊎◌, List, [], ◌∷◌, ◌++◌, length, get_or, take, Some, None, ap, ◌∙◌, ⊎_elim, arith}
 use Rattle.std.proofs.lemmas.Grind.{common_steps}
+use Rattle.port.specs.Endpoints.{Endpoint, InRange}
 use Rattle.port.specs.Bus.{Fresh}
 use Rattle.pipes.specs.declared.refusals.Refusal.TheVariants.{ThirdMiss}
 use Rattle.pipes.specs.Answers.{answered}
 use Rattle.service.specs.Words.{Message}
 use Rattle.service.specs.Laws.{Took}
 use Rattle.service.specs.Runs.{bus_of, printer, pad, slip, next_slip}
+
+-- one endpoint alone, in range and with nothing taken
+pub alone_fresh : (e : Endpoint) (fates : List ℕ) → InRange e → e.taken ≡ [] → Fresh (bus_of e fates)
+alone_fresh e fates range none = grind (arith, common_steps)
 
 pub printer_fresh : (fates : List ℕ) → Fresh (bus_of printer fates)
 printer_fresh fates = grind (arith, common_steps)

@@ -2,17 +2,16 @@ ghost use Rattle.std.specs.Prelude.{◌≡◌, [], length, drop, IfOk, if◌then
 ghost use Rattle.parts.specs.Records.{inbox_bytes};
 
 use super::Inbox;
-use crate::pushes::push_all;
+use crate::rooms::Room;
 use port::registers::PACKET_MOST;
 use std::alloc::{AllocError, Global};
-use std::collections::VecDeque;
 
 impl Inbox {
     pub(crate) fn new(alloc: Global) -> Result<Inbox, AllocError>
         ensures { IfOk result (λ inbox. inbox_bytes inbox ≡ []) }
     {
-        let bytes = VecDeque::with_capacity(alloc, PACKET_MOST)?;
-        Ok(Inbox { bytes })
+        let room = Room::new(alloc, PACKET_MOST)?;
+        Ok(Inbox { room, read: 0 })
     }
 
     // These bytes in place of what was there; nothing where they are more than a packet has.
@@ -20,15 +19,15 @@ impl Inbox {
         ensures { inbox_bytes self.new ≡ (if nat_lt 64 (length bytes.now) then [] else bytes.now) }
     {
         self.clear();
-        if bytes.len() <= PACKET_MOST {
-            push_all(&mut self.bytes, bytes);
-        }
+        let _ = self.room.append(bytes);
     }
 
     pub(crate) fn clear(&mut self)
-        ensures { inbox_bytes self.new ≡ [] }
+        ensures bytes { inbox_bytes self.new ≡ [] }
+        ensures start { self.new.read ≡ 0 }
     {
-        self.bytes.clear();
+        self.read = 0;
+        self.room.clear();
     }
 
     // The next byte, 0 if none is left.
@@ -36,13 +35,19 @@ impl Inbox {
         ensures value { result ≡ slice_index (inbox_bytes self.old) 0 }
         ensures after { inbox_bytes self.new ≡ drop 1 (inbox_bytes self.old) }
     {
-        self.bytes.pop_front().unwrap_or(0)
+        let bytes = self.room.as_slice();
+        if self.read >= bytes.len() {
+            return 0;
+        }
+        let byte = bytes[self.read];
+        self.read += 1;
+        byte
     }
 
     // How many bytes are left.
     pub(crate) fn left(&self) -> u8
         ensures { result ≡ length (inbox_bytes self.now) }
     {
-        self.bytes.len() as u8
+        (self.room.as_slice().len() - self.read) as u8
     }
 }

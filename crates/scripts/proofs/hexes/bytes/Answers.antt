@@ -1,7 +1,13 @@
-use Rattle.std.proofs.Common.{◌≡◌, ◌≢◌, [], length, codes, ap, refl, arith, rules, tests}
-use Rattle.scripts.proofs.HexTexts.{goes_on, no_digits, too_short}
+use Rattle.std.proofs.Common.{◌≡◌, ◌≢◌, ◌%◌, [], length, codes, ap, refl, arith, rules, tests}
+use Rattle.scripts.proofs.HexTexts.{goes_on, odd_word, no_digits, too_short}
 use Rattle.scripts.proofs.hexes.bytes.Goals as goal
 use Rattle.scripts.proofs.hexes.bytes.Goals.{else-is_empty-via-then-is_empty+else-not-is_empty, else-is_empty-via-else-is_empty}
+
+pub returns-then-not-is_multiple_of : goal.returns-then-not-is_multiple_of
+returns-then-not-is_multiple_of c =
+    let some : c.args.word.now ≢ codes "-" = search (rules, tests) in
+    let odd : length c.args.word.now % 2 ≢ 0 = search (rules, tests) in
+    λ _ v are. odd_word v.items c.args.word.now odd some
 
 pub returns-in_default-pair : goal.returns-in_default-pair
 returns-in_default-pair c =
