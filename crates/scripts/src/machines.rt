@@ -6,7 +6,7 @@ ghost use Rattle.scripts.specs.Buses.{driven_bus};
 ghost use Rattle.scripts.specs.Scenes.{scene_of, stage_scene, fresh_scene, bus_in, state_in, serving, Serves, Shows, SetsUp, Obeys};
 
 use crate::benches::Bench;
-use crate::buses::Driven;
+use crate::buses::{Bus, Driven};
 use crate::commands::Command;
 use crate::errors::LineError;
 use crate::saying::{Said, Verb, pipe_of};
@@ -75,6 +75,19 @@ impl Stage {
         }
     }
 
+    // What the host drives; after the first call it stays.
+    fn drive(&mut self, bus: Bus) -> Result<Said, LineError>
+        ensures { SetsUp (Command.Drive bus) (stage_scene self.old) result (stage_scene self.new) }
+    {
+        match self {
+            Stage::SettingUp(bench) => {
+                bench.bus = bus;
+                Ok(Said::Nothing)
+            }
+            Stage::Serving(_) => Err(LineError::NotUnderstood),
+        }
+    }
+
     // A line that sets up the bus or drives the chip; after the first call none is understood.
     fn set_up(self, command: Command) -> (Stage, Result<Said, LineError>)
         ensures { SetsUp command (stage_scene self) result.1 (stage_scene result.0) }
@@ -108,7 +121,8 @@ impl Machine {
         Ok(Said::Shown(text))
     }
 
-    // Obeys a command: the machine afterwards, and what is said.
+    // Obeys a command: the machine afterwards, and what is said. It stands where it is called, since the machine is large to hand on.
+    #[inline(always)]
     pub fn obey(self, alloc: Global, command: Command) -> (Machine, Result<Said, LineError>)
         ensures { Obeys command (scene_of self) result.1 (scene_of result.0) }
     {
@@ -127,6 +141,11 @@ impl Machine {
             Command::Show => {
                 let said = self.show(alloc);
                 (self, said)
+            }
+            Command::Drive(bus) => {
+                let mut machine = self;
+                let said = machine.stage.drive(bus);
+                (machine, said)
             }
             command => {
                 let (stage, said) = self.stage.set_up(command);
